@@ -160,3 +160,64 @@ answered() {
     told=$(talk "$path" "HELLO north" "$line" BYE) || fail "$line: the talk ended with status $?"
     [ "$told" = "$(printf '%s\n' "hello north" "$@" bye)" ] || fail "$line: $told"
 }
+
+# web_server NAME PATH OPTION..: starts a server as `server` does, which also answers HTTP at a port of this machine that is free: it is
+# told in $port. A configuration for it is `map.json`, which `web_configuration` writes.
+web_server() {
+    local name=$1 path=$2 try
+    shift 2
+    for ((try = 0; try < 20; try++)); do
+        port=$((20000 + RANDOM % 20000))
+        begin "$name" serve --socket "$path" --config map.json --http "127.0.0.1:$port" "$@"
+        await is_listening "$name"
+        [ ! -s "$name.out" ] || break
+        wait "${started[$name]}"
+        unset "started[$name]"
+    done
+    [ "$(cat "$name.out")" = "$(printf 'listening %s\nlistening http://127.0.0.1:%s' "$path" "$port")" ] ||
+        fail "$name does not listen: $(cat "$name.out" "$name.err")"
+}
+
+# web_configuration: an office of roads, in which everybody reads masts and roads, and `guest` asks by HTTP.
+web_configuration() {
+    cat > map.json <<'JSON'
+{"subjects": [
+   {"name": "ines", "office": "roads", "role": "surveyor", "steward": true},
+   {"name": "guest", "office": "none", "role": "guest"}],
+ "policies": {"root": {"policy": "offices", "combine": "first-applicable", "rules": [
+   {"rule": "own-features", "effect": "permit", "when": [{"own": true}]},
+   {"rule": "everybody-reads-masts", "effect": "permit", "target": [[[{"action": "read"}, {"class": "mast"}]]]}]}},
+ "grid": {"origin": ["7", "46"], "decimals": 7},
+ "anonymous": "guest",
+ "collections": ["mast", "road"]}
+JSON
+}
+
+# get TARGET [FIELD..]: what is answered to a request for this target at $port, by a connection of its own: the status in $status,
+# the fields in $fields, the body in $body.
+get() {
+    local target=$1 line socket
+    shift
+    exec {socket}<> "/dev/tcp/127.0.0.1/$port" || fail "nobody listens at $port"
+    printf '%s\r\n' "GET $target HTTP/1.1" "Host: 127.0.0.1:$port" "Connection: close" "$@" "" >&"$socket"
+    status="" fields="" body=""
+    read -r -t 10 -u "$socket" line || fail "$target is not answered"
+    status=${line#HTTP/1.1 }
+    status=${status%%$'\r'}
+    while read -r -t 10 -u "$socket" line && [ "$line" != $'\r' ]; do
+        fields+=${line%$'\r'}$'\n'
+    done
+    body=$(timeout 10 cat <&"$socket")
+    exec {socket}>&-
+}
+
+# answers TARGET STATUS TEXT..: a request for this target has this status, and its body has these texts.
+answers() {
+    local target=$1 wanted=$2 text
+    shift 2
+    get "$target"
+    [ "$status" = "$wanted" ] || fail "$target: $status, not $wanted: $body"
+    for text in "$@"; do
+        [[ $body == *"$text"* ]] || fail "$target has no $text: $body"
+    done
+}

@@ -54,7 +54,7 @@ module _ (A : RattleType) (g : Ghosts A.Denot) (s : IsSend A) (y : IsSync A) (f 
   shared_record_sync = arc.the_sync _ A g (record_send A g s f) s (record_sync A g y) y f
 
   pub trail_send : IsSend (Trail.the_row A g)
-  trail_send = model_send (trail_inside.the_type A g) (vec.the_send _ A g shared_record_send s f & u32_send & s & tt)
+  trail_send = model_send (trail_inside.the_type A g) (vec.the_send _ A g shared_record_send s f & u64_send & s & tt)
 
   pub trail_sync : IsSync (Trail.the_row A g)
-  trail_sync = model_sync (trail_inside.the_type A g) (vec.the_sync _ A g shared_record_sync y & u32_sync & y & tt)
+  trail_sync = model_sync (trail_inside.the_type A g) (vec.the_sync _ A g shared_record_sync y & u64_sync & y & tt)

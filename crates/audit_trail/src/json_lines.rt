@@ -27,7 +27,7 @@ impl<A: Allocator> Trail<A> {
     /// The record with this number as JSON (RFC 8259): no spaces, no line end, the keys of each
     /// object sorted. `NoRecord` exactly if the trail has no such record; otherwise the only error
     /// is `Memory`.
-    pub fn json_line(&self, heap: Global, number: u32) -> Result<String, TrailFault>
+    pub fn json_line(&self, heap: Global, number: u64) -> Result<String, TrailFault>
         ensures { MatchOption (record_at number self.now)
             (result ≡ Err TrailFault.NoRecord)
             (λ r. MatchResult result (λ text. string_bytes text ≡ line_text number r)
@@ -55,7 +55,7 @@ impl<A: Allocator + Copy> Trail<A> {
 fn lines_of<A: Allocator + Copy>(
     alloc: A,
     heap: Global,
-    first: u32,
+    first: u64,
     records: &[Arc<Record<A>, A>],
 ) -> Result<Vec<String<A>, A>, NoMemory>
     requires first { first ≤ FIRST_LIMIT }
@@ -77,7 +77,7 @@ fn lines_of<A: Allocator + Copy>(
 /// out of memory.
 pub fn record_line<A: Allocator>(
     heap: Global,
-    number: u32,
+    number: u64,
     entry: &Record<A>,
 ) -> Result<String, NoMemory>
     ensures { IfOk result (λ text. string_bytes text ≡ line_text number entry.now) }
@@ -87,7 +87,7 @@ pub fn record_line<A: Allocator>(
 }
 
 /// A record with its number, as a JSON object.
-fn line_value<A: Allocator>(heap: Global, number: u32, entry: &Record<A>) -> Result<Value, NoMemory>
+fn line_value<A: Allocator>(heap: Global, number: u64, entry: &Record<A>) -> Result<Value, NoMemory>
     ensures value { IfOk result (λ v. view v ≡ line_of number entry.now) }
     ensures documented { OnOk result (IsDocumented entry.now.deed) }
 {

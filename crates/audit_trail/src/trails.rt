@@ -15,9 +15,9 @@ use std::sync::Arc;
 /// The most records that a trail can have.
 pub const RECORD_LIMIT: u32 = 1_048_576;
 
-/// The greatest number that a trail's first record may have. From there on, the numbers of all
-/// `RECORD_LIMIT` records still fit a `u32`.
-pub const FIRST_LIMIT: u32 = 4_293_918_720;
+/// The greatest number that a trail's first record may have: 2^62. From there on, the numbers of
+/// `RECORD_LIMIT` records still fit an `i64`, which a store on the disk has for them.
+pub const FIRST_LIMIT: u64 = 4_611_686_018_427_387_904;
 
 /// Why a trail takes no record, or has none to give.
 #[derive(Debug, Drop, PartialEq, Eq)]
@@ -72,7 +72,7 @@ impl fmt::Display for TrailFault {
 #[derive(Debug, Drop)]
 pub struct Trail<A: Allocator> {
     pub(crate) records: Vec<Arc<Record<A>, A>, A>,
-    pub(crate) first: u32,
+    pub(crate) first: u64,
     pub(crate) alloc: A,
 }
 
@@ -115,7 +115,7 @@ impl<A: Allocator> Trail<A> {
     }
 
     /// The number of the first record; in an empty trail, the number that it will have.
-    pub fn first(&self) -> u32
+    pub fn first(&self) -> u64
         ensures value { result ≡ self.now.first }
         ensures bound { result ≤ FIRST_LIMIT }
     {
@@ -123,7 +123,7 @@ impl<A: Allocator> Trail<A> {
     }
 
     /// The record with this number.
-    pub fn get(&self, number: u32) -> Option<&Arc<Record<A>, A>>
+    pub fn get(&self, number: u64) -> Option<&Arc<Record<A>, A>>
         ensures value { option_map (λ r. arc_value r.now) result ≡ record_at number self.now }
         ensures found { IsSome result ↔ (self.now.first ≤ number)
             × (number < self.now.first + length self.now.records) }
@@ -145,7 +145,7 @@ impl<A: Allocator + Copy> Trail<A> {
     }
 
     /// An empty trail, whose first record will have the number `first`. Allocates nothing.
-    pub fn starting_at(alloc: A, first: u32) -> Self
+    pub fn starting_at(alloc: A, first: u64) -> Self
         requires { first ≤ FIRST_LIMIT }
         ensures first { result.first ≡ first }
         ensures none { result.records ≡ [] }
@@ -183,7 +183,7 @@ impl<A: Allocator + Copy> Trail<A> {
     /// Adds a record at the end and returns its number. On an error it returns the record, and the
     /// trail's records are unchanged: `Full` exactly if the trail has `RECORD_LIMIT` records,
     /// otherwise `Memory`.
-    pub fn push(&mut self, entry: Record<A>) -> Result<u32, (Record<A>, TrailFault)>
+    pub fn push(&mut self, entry: Record<A>) -> Result<u64, (Record<A>, TrailFault)>
         ensures first { self.new.first ≡ self.old.first }
         ensures ok { OnOk result (self.new.records ≡ self.old.records ++ entry ∷ []) }
         ensures number { IfOk result (λ n. n ≡ self.old.first + length self.old.records) }
@@ -205,7 +205,7 @@ impl<A: Allocator + Copy> Trail<A> {
         match shared(self.alloc, entry) {
             Ok(made) => {
                 self.records.push_reserved(made);
-                Ok(self.first + number)
+                Ok(self.first + u64::from(number))
             }
             Err(failed) => Err((failed.value, TrailFault::Memory(failed.cause))),
         }

@@ -62,8 +62,8 @@ impl<A: Allocator> Chronicle<A> {
 }
 
 impl<A: Allocator + Copy> Chronicle<A> {
-    /// A world with no features, no seats and no records, with this document as its first edition.
-    /// X12 where an allocation is refused: then the document is returned.
+    /// A world with no features, no seats and no records, with this document as its first edition,
+    /// within the limits `Limits::USUAL`. X12 where an allocation is refused: then the document is returned.
     pub fn open(
         alloc: A,
         heap: Global,
@@ -80,13 +80,12 @@ impl<A: Allocator + Copy> Chronicle<A> {
             subjects,
             document,
             Starts::FIRST,
-            Limits::GREATEST,
+            Limits::USUAL,
         )
     }
 
-    /// The same with other first numbers and other limits, for tests of what happens at their ends.
-    /// No limit is above that of `Limits::GREATEST`, and at most `ROLLED_LIMIT` records were rolled
-    /// out before.
+    /// The same with other first numbers and other limits. No limit is above that of
+    /// `Limits::GREATEST`, and at most `ROLLED_LIMIT` records were rolled out before.
     pub fn open_at(
         alloc: A,
         heap: Global,

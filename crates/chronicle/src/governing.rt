@@ -80,7 +80,7 @@ fn append_records<A: Allocator>(
     ensures front { take (length rolled.old.items) rolled.new.items ≡ rolled.old.items }
 {
     for index in 0..trail.len() {
-        let Some(record) = trail.get(trail.first() + index) else {
+        let Some(record) = trail.get(trail.first() + u64::from(index)) else {
             unreachable!()
         };
         rolled.make_slot()?;

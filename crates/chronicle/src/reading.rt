@@ -165,7 +165,7 @@ fn record_at<'a, A: Allocator>(
     }
     let behind = place - before;
     if behind < u64::from(trail.len()) {
-        trail.get(trail.first() + behind as u32)
+        trail.get(trail.first() + behind)
     } else {
         None
     }

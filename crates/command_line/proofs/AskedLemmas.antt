@@ -17,8 +17,8 @@ use Rattle.clap.specs.Words.{subcommand_name_of, subcommand_of, subcommand_rows,
 use Rattle.clap.specs.declared.parser.matches.ArgMatches.{ArgMatches}
 use Rattle.clap.specs.declared.parser.matches.ArgMatches.TheViews.{out-ArgMatches, out-SubCommand}
 use Rattle.clap.specs.declared.parser.matches.SubCommand.{SubCommand}
-use Rattle.command_line.specs.CommandLine.{check_line, command_for, command_line, completions_line, connect_line, draw_line, export_line, flag_rule, import_line, man_line, needed, option_rule, refusals, script_line, serve_line, store_line, up_to}
-use Rattle.command_line.specs.declared.options.TheConstants.{CONNECTION_LIMIT, FIRST_ID_LIMIT, IDLE_LIMIT, WORKER_LIMIT}
+use Rattle.command_line.specs.CommandLine.{check_line, command_for, command_line, completions_line, connect_line, draw_line, export_line, features_rule, flag_rule, import_line, man_line, needed, option_rule, refusals, script_line, serve_line, store_line, up_to}
+use Rattle.command_line.specs.declared.options.TheConstants.{CONNECTION_LIMIT, FIRST_ID_LIMIT, HTTP_WORKER_LIMIT, IDLE_LIMIT, WORKER_LIMIT}
 use Rattle.command_line.proofs.HelpLemmas.{EntersNoHelp, IsNoHelp, walk_no_help}
 use Rattle.command_line.proofs.NumberLemmas.{Passes, has_first, passes}
 use Rattle.command_line.proofs.RowLemmas.{AreKnown, ArePassed, level_passed, level_steps}
@@ -97,8 +97,8 @@ action_rule = with_index 1 (filled (needed (new_rule (codes "ACTION"))))
 abbrev folder_rule : Rule
 folder_rule = with_index 2 (filled (needed (new_rule (codes "DIR"))))
 
-abbrev pub features_rule : Rule
-features_rule = filled (flag_rule (codes "features"))
+abbrev pub stored_rule : Rule
+stored_rule = filled (flag_rule (codes "features"))
 
 abbrev config_rule : Rule
 config_rule = filled (needed (option_rule (codes "config")))
@@ -121,44 +121,17 @@ takeover_rule = filled (flag_rule (codes "takeover"))
 abbrev pub until_rule : Rule
 until_rule = filled (flag_rule (codes "until-stdin-ends"))
 
+abbrev pub http_workers_rule : Rule
+http_workers_rule = filled (up_to HTTP_WORKER_LIMIT (option_rule (codes "http-workers")))
+
+abbrev pub most_rule : Rule
+most_rule = filled features_rule
+
 script_known : AreKnown script_built.rules script_built.rules
-script_known = (
-  record { plain = inl (tt, inl refl); own = refl; defaults = refl },
-  (
-    record { plain = inl (tt, inl refl); own = refl; defaults = refl },
-    (record { plain = inl (tt, inl refl); own = refl; defaults = refl }, (record { plain = inr refl; own = refl; defaults = refl }, tt)),
-  ),
-)
+script_known = (record { plain = inl (tt, inl refl); own = refl; defaults = refl }, (record { plain = inl (tt, inl refl); own = refl; defaults = refl }, (record { plain = inl (tt, inl refl); own = refl; defaults = refl }, (record { plain = inl (tt, inl refl); own = refl; defaults = refl }, (record { plain = inr refl; own = refl; defaults = refl }, tt)))))
 
 serve_known : AreKnown serve_built.rules serve_built.rules
-serve_known = (
-  record { plain = inl (tt, inl refl); own = refl; defaults = refl },
-  (
-    record { plain = inl (tt, inl refl); own = refl; defaults = refl },
-    (
-      record { plain = inl (tt, inl refl); own = refl; defaults = refl },
-      (
-        record { plain = inl (tt, inl refl); own = refl; defaults = refl },
-        (
-          record { plain = inl (tt, inl refl); own = refl; defaults = refl },
-          (
-            record { plain = inl (tt, inr tt); own = refl; defaults = refl },
-            (
-              record { plain = inl (tt, inr tt); own = refl; defaults = refl },
-              (
-                record { plain = inl (tt, inl refl); own = refl; defaults = refl },
-                (
-                  record { plain = inl (tt, inl refl); own = refl; defaults = refl },
-                  (record { plain = inr refl; own = refl; defaults = refl }, tt),
-                ),
-              ),
-            ),
-          ),
-        ),
-      ),
-    ),
-  ),
-)
+serve_known = (record { plain = inl (tt, inl refl); own = refl; defaults = refl }, (record { plain = inl (tt, inl refl); own = refl; defaults = refl }, (record { plain = inl (tt, inl refl); own = refl; defaults = refl }, (record { plain = inl (tt, inl refl); own = refl; defaults = refl }, (record { plain = inl (tt, inl refl); own = refl; defaults = refl }, (record { plain = inl (tt, inr tt); own = refl; defaults = refl }, (record { plain = inl (tt, inr tt); own = refl; defaults = refl }, (record { plain = inl (tt, inl refl); own = refl; defaults = refl }, (record { plain = inl (tt, inl refl); own = refl; defaults = refl }, (record { plain = inl (tt, inl refl); own = refl; defaults = refl }, (record { plain = inl (tt, inl refl); own = refl; defaults = refl }, (record { plain = inl (tt, inl refl); own = refl; defaults = refl }, (record { plain = inl (tt, inl refl); own = refl; defaults = refl }, (record { plain = inr refl; own = refl; defaults = refl }, tt))))))))))))))
 
 connect_known : AreKnown connect_built.rules connect_built.rules
 connect_known = (record { plain = inl (tt, inl refl); own = refl; defaults = refl }, (record { plain = inr refl; own = refl; defaults = refl }, tt))
@@ -183,9 +156,10 @@ completions_known = (record { plain = inl (tt, inl refl); own = refl; defaults =
 
 -- ---- what clap lets through
 
--- `script` has its FILE
-abbrev pub NamesFile : List Row → Type 0
-NamesFile rows = is_some (first_of (codes "FILE") rows) ≡ true
+-- `script` has its FILE, and its number passed
+pub record NeedsFile (rows : List Row) : Type 0 where
+  pub file : is_some (first_of (codes "FILE") rows) ≡ true
+  pub features : Passes most_rule rows
 
 -- `connect` has its socket
 abbrev pub NamesSocket : List Row → Type 0
@@ -218,7 +192,7 @@ pub record NeedsImport (rows : List Row) : Type 0 where
 pub record NeedsStore (rows : List Row) : Type 0 where
   pub action : is_some (first_of (codes "ACTION") rows) ≡ true
   pub folder : is_some (first_of (codes "DIR") rows) ≡ true
-  pub features : Passes features_rule rows
+  pub features : Passes stored_rule rows
 
 -- `completions` has its shell
 abbrev pub NamesShell : List Row → Type 0
@@ -232,6 +206,8 @@ pub record HasNeeded (rows : List Row) : Type 0 where
   pub idle : Passes idle_rule rows
   pub takeover : Passes takeover_rule rows
   pub until_stdin_ends : Passes until_rule rows
+  pub http_workers : Passes http_workers_rule rows
+  pub features : Passes most_rule rows
 
 wanted : (b : Bool) → check_kinds false false (not b || false) ≡ [] → b ≡ true
 wanted true e = refl
@@ -248,12 +224,15 @@ all_wanted true true false e = absurd cc
 all_wanted true false d e = absurd cc
 all_wanted false b d e = absurd cc
 
-script_passed : (words : List Text) → level_fault script_built [] nothing_held words false [] ≡ [] → NamesFile (rows_at script_built words).1
+script_passed : (words : List Text) → level_fault script_built [] nothing_held words false [] ≡ [] → NeedsFile (rows_at script_built words).1
 script_passed words e =
     let rows = finished script_built.rules (walk script_built.rules [] nothing_held words).held in
     let passed : ArePassed script_built.rules rows = level_passed script_built [] words false [] script_known e in
     let file : Passes file_rule rows = passes script_built.rules file_rule rows refl passed in
-    has_first file_rule rows file (wanted (is_given (codes "FILE") rows) (level_steps script_built [] words false [] e).3)
+    record {
+      file = has_first file_rule rows file (wanted (is_given (codes "FILE") rows) (level_steps script_built [] words false [] e).3);
+      features = passes script_built.rules most_rule rows refl passed;
+    }
 
 serve_passed : (words : List Text) → level_fault serve_built [] nothing_held words false [] ≡ [] → HasNeeded (rows_at serve_built words).1
 serve_passed words e =
@@ -268,6 +247,8 @@ serve_passed words e =
       idle = passes rules idle_rule rows refl passed;
       takeover = passes rules takeover_rule rows refl passed;
       until_stdin_ends = passes rules until_rule rows refl passed;
+      http_workers = passes rules http_workers_rule rows refl passed;
+      features = passes rules most_rule rows refl passed;
     }
 
 connect_passed : (words : List Text) → level_fault connect_built [] nothing_held words false [] ≡ [] → NamesSocket (rows_at connect_built words).1
@@ -327,7 +308,7 @@ store_passed words e =
     record {
       action = has_first action_rule rows (passes rules action_rule rows refl passed) there.0;
       folder = has_first folder_rule rows (passes rules folder_rule rows refl passed) there.1;
-      features = passes rules features_rule rows refl passed;
+      features = passes rules stored_rule rows refl passed;
     }
 
 completions_passed : (words : List Text) → level_fault completions_built [] nothing_held words false [] ≡ [] → NamesShell (rows_at completions_built words).1
@@ -339,7 +320,7 @@ completions_passed words e =
 
 -- a subcommand and its rows, from words that clap accepts
 pub data IsTaken (taken : Option (Text × List Row)) : Type 0 where
-  takes_script : (rows : List Row) → taken ≡ Some (codes "script", rows) → NamesFile rows → IsTaken taken
+  takes_script : (rows : List Row) → taken ≡ Some (codes "script", rows) → NeedsFile rows → IsTaken taken
   takes_serve : (rows : List Row) → taken ≡ Some (codes "serve", rows) → HasNeeded rows → IsTaken taken
   takes_connect : (rows : List Row) → taken ≡ Some (codes "connect", rows) → NamesSocket rows → IsTaken taken
   takes_check : (rows : List Row) → taken ≡ Some (codes "check", rows) → NamesConfig rows → IsTaken taken
@@ -420,20 +401,20 @@ abbrev AtName : Text → (List Row → Type 0) → Option (Text × List Row) →
 AtName name P None = Unit {0}
 AtName name P (Some sub) = sub.0 ≡ name → P sub.1
 
-at_script : (o : Option (Text × List Row)) → IsTaken o → AtName (codes "script") NamesFile o
-at_script o (IsTaken.takes_script rows is h) = subst (AtName (codes "script") NamesFile) (sym is) (λ same. h)
-at_script o (IsTaken.takes_serve rows is h) = subst (AtName (codes "script") NamesFile) (sym is) (λ same. absurd (true≢false (ap (bytes_eq (codes "serve")) same)))
-at_script o (IsTaken.takes_connect rows is h) = subst (AtName (codes "script") NamesFile) (sym is) (λ same. absurd (true≢false (ap (bytes_eq (codes "connect")) same)))
-at_script o (IsTaken.takes_check rows is h) = subst (AtName (codes "script") NamesFile) (sym is) (λ same. absurd (true≢false (ap (bytes_eq (codes "check")) same)))
-at_script o (IsTaken.takes_draw rows is h) = subst (AtName (codes "script") NamesFile) (sym is) (λ same. absurd (true≢false (ap (bytes_eq (codes "draw")) same)))
-at_script o (IsTaken.takes_export rows is h) = subst (AtName (codes "script") NamesFile) (sym is) (λ same. absurd (true≢false (ap (bytes_eq (codes "export")) same)))
-at_script o (IsTaken.takes_import rows is h) = subst (AtName (codes "script") NamesFile) (sym is) (λ same. absurd (true≢false (ap (bytes_eq (codes "import")) same)))
-at_script o (IsTaken.takes_store rows is h) = subst (AtName (codes "script") NamesFile) (sym is) (λ same. absurd (true≢false (ap (bytes_eq (codes "store")) same)))
-at_script o (IsTaken.takes_man rows is) = subst (AtName (codes "script") NamesFile) (sym is) (λ same. absurd (true≢false (ap (bytes_eq (codes "man")) same)))
-at_script o (IsTaken.takes_completions rows is h) = subst (AtName (codes "script") NamesFile) (sym is) (λ same. absurd (true≢false (ap (bytes_eq (codes "completions")) same)))
+at_script : (o : Option (Text × List Row)) → IsTaken o → AtName (codes "script") NeedsFile o
+at_script o (IsTaken.takes_script rows is h) = subst (AtName (codes "script") NeedsFile) (sym is) (λ same. h)
+at_script o (IsTaken.takes_serve rows is h) = subst (AtName (codes "script") NeedsFile) (sym is) (λ same. absurd (true≢false (ap (bytes_eq (codes "serve")) same)))
+at_script o (IsTaken.takes_connect rows is h) = subst (AtName (codes "script") NeedsFile) (sym is) (λ same. absurd (true≢false (ap (bytes_eq (codes "connect")) same)))
+at_script o (IsTaken.takes_check rows is h) = subst (AtName (codes "script") NeedsFile) (sym is) (λ same. absurd (true≢false (ap (bytes_eq (codes "check")) same)))
+at_script o (IsTaken.takes_draw rows is h) = subst (AtName (codes "script") NeedsFile) (sym is) (λ same. absurd (true≢false (ap (bytes_eq (codes "draw")) same)))
+at_script o (IsTaken.takes_export rows is h) = subst (AtName (codes "script") NeedsFile) (sym is) (λ same. absurd (true≢false (ap (bytes_eq (codes "export")) same)))
+at_script o (IsTaken.takes_import rows is h) = subst (AtName (codes "script") NeedsFile) (sym is) (λ same. absurd (true≢false (ap (bytes_eq (codes "import")) same)))
+at_script o (IsTaken.takes_store rows is h) = subst (AtName (codes "script") NeedsFile) (sym is) (λ same. absurd (true≢false (ap (bytes_eq (codes "store")) same)))
+at_script o (IsTaken.takes_man rows is) = subst (AtName (codes "script") NeedsFile) (sym is) (λ same. absurd (true≢false (ap (bytes_eq (codes "man")) same)))
+at_script o (IsTaken.takes_completions rows is h) = subst (AtName (codes "script") NeedsFile) (sym is) (λ same. absurd (true≢false (ap (bytes_eq (codes "completions")) same)))
 
-pub script_has_file : (words : List Text) (rows : List Row) → refusals words ≡ [] → subcommand_of command_line words ≡ Some (codes "script", rows) → NamesFile rows
-script_has_file words rows e is = subst (AtName (codes "script") NamesFile) is (at_script (subcommand_of command_line words) (taken words e)) refl
+pub script_has_file : (words : List Text) (rows : List Row) → refusals words ≡ [] → subcommand_of command_line words ≡ Some (codes "script", rows) → NeedsFile rows
+script_has_file words rows e is = subst (AtName (codes "script") NeedsFile) is (at_script (subcommand_of command_line words) (taken words e)) refl
 
 at_serve : (o : Option (Text × List Row)) → IsTaken o → AtName (codes "serve") HasNeeded o
 at_serve o (IsTaken.takes_script rows is h) = subst (AtName (codes "serve") HasNeeded) (sym is) (λ same. absurd (true≢false (ap (bytes_eq (codes "script")) same)))

@@ -1,11 +1,12 @@
 -- What the words of a command line ask for.
-use Rattle.std.specs.Prelude.{◌≡◌, ◌≤◌, ℕ, false, List, [], IfSome, Option, Some, codes, None, option_and_then, option_map, unwrap_or}
+use Rattle.std.specs.Prelude.{◌≡◌, ◌≤◌, ◌⊎◌, ℕ, false, List, [], IfSome, Option, Some, codes, None, option_and_then, option_map, unwrap_or}
 use Rattle.clap.specs.Words.{IsAmong, Row, Text, kind_of, subcommand_of, subcommand_rows_of}
 use Rattle.command_line.specs.CommandLine.{AreTurnedDown, AskFor, AskForHelp, command_line, action_at, flag_at, format_at, given_by, number_at, refusals, shell_at, shell_named, waits_at}
+use Rattle.command_line.specs.Http.{IsHttpAt, IsHttpFault}
 use Rattle.command_line.specs.declared.commands.Reading.{Reading}
 use Rattle.command_line.specs.declared.commands.Reading.TheVariants.{Given, Told}
 use Rattle.command_line.specs.declared.options.ServerOptions.{ServerOptions}
-use Rattle.command_line.specs.declared.options.TheConstants.{CONNECTION_LIMIT, DEFAULT_WORKERS, FIRST_ID_LIMIT, IDLE_LIMIT, WORKER_LIMIT}
+use Rattle.command_line.specs.declared.options.TheConstants.{CONNECTION_LIMIT, DEFAULT_WORKERS, FEATURE_LIMIT, FIRST_ID_LIMIT, HTTP_WORKER_LIMIT, IDLE_LIMIT, WORKER_LIMIT}
 use Rattle.command_line.specs.declared.stores.StoreWords.{StoreWords}
 use Rattle.command_line.specs.declared.transfers.ExportWords.{ExportWords}
 use Rattle.command_line.specs.declared.transfers.ImportWords.{ImportWords}
@@ -42,19 +43,26 @@ pub record HasOptions (given : Text → Option Text) (options : ServerOptions) :
   pub workers_fit : IsUpTo WORKER_LIMIT options.workers
   pub idle_fits : IfSome options.idle_seconds (IsUpTo IDLE_LIMIT)
 
--- the files of a script, and the folder of its store
-abbrev pub HasFiles : (Text → Option Text) → ScriptWords → Type 0
-HasFiles given files = (given (codes "FILE") ≡ Some files.script.now)
-    × (given (codes "config") ≡ option_map (λ name. name.now) files.config)
-    × (given (codes "store") ≡ option_map (λ name. name.now) files.store)
+-- the files of a script, the folder of its store, and the most features
+pub record HasFiles (given : Text → Option Text) (files : ScriptWords) : Type 0 where
+  pub script : given (codes "FILE") ≡ Some files.script.now
+  pub config : given (codes "config") ≡ option_map (λ name. name.now) files.config
+  pub store : given (codes "store") ≡ option_map (λ name. name.now) files.store
+  pub features : files.features ≡ number_at given (codes "features")
+  pub features_fit : IfSome files.features (IsUpTo FEATURE_LIMIT)
 
--- the options of a server, its configuration's file, the folder of its store, and for which records
--- its replies wait
+-- the options of a server, its configuration's file, the folder of its store, for which records its
+-- replies wait, where it answers HTTP and by how many workers, and the most features
 pub record HasServer (given : Text → Option Text) (server : ServeWords) : Type 0 where
   pub options : HasOptions given server.options
   pub config : given (codes "config") ≡ option_map (λ name. name.now) server.config
   pub store : given (codes "store") ≡ option_map (λ name. name.now) server.store
   pub waits : waits_at given (codes "wait") ≡ Some server.waits
+  pub http : IsHttpAt given server.http
+  pub http_workers : server.http_workers ≡ number_at given (codes "http-workers")
+  pub http_workers_fit : IfSome server.http_workers (IsUpTo HTTP_WORKER_LIMIT)
+  pub features : server.features ≡ number_at given (codes "features")
+  pub features_fit : IfSome server.features (IsUpTo FEATURE_LIMIT)
 
 -- what is asked of a store: what is done, its folder, and whether features are meant
 pub record HasStore (given : Text → Option Text) (words : StoreWords) : Type 0 where
@@ -99,10 +107,11 @@ IsAskedImport given (Mistake text) =
     (given (codes "socket") ≡ None) × (flag_at given (codes "script") ≡ false)
 IsAskedImport given _ = ⊥
 
--- a server, or nothing, since its replies would wait for what there is not
+-- a server, or nothing, since its replies would wait for what there is not, or HTTP cannot be
+-- answered as is said
 abbrev pub IsAskedServer : (Text → Option Text) → Asked → Type 0
 IsAskedServer given (Serve words) = HasServer given words
-IsAskedServer given (Mistake text) = waits_at given (codes "wait") ≡ None
+IsAskedServer given (Mistake text) = (waits_at given (codes "wait") ≡ None) ⊎ IsHttpFault given
 IsAskedServer given _ = ⊥
 
 -- a look at a store, or nothing, since nothing of the name that is given is done with one

@@ -1,5 +1,4 @@
--- The command line, as clap reads it: `landmap script [--config FILE] FILE`, `landmap serve` with
--- its options, `landmap connect --socket PATH`, `landmap check --config FILE`, `landmap draw
+-- The command line, as clap reads it: `landmap script` and `landmap serve` with their options, `landmap connect --socket PATH`, `landmap check --config FILE`, `landmap draw
 -- SCRIPT`, `landmap export` and `landmap import` with their options, `landmap store ACTION DIR
 -- [--features]`, `landmap man`, and `landmap completions SHELL`.
 use Rattle.std.specs.Prelude.{◌≡◌, ◌≢◌, ◌⊎◌, ℕ, Bool, true, false, List, [], ◌∷◌, Option, None, Some, codes, if◌then◌else◌, fold, option_map, option_and_then, pos}
@@ -15,11 +14,12 @@ use Rattle.clap.specs.declared.builder.command.Command.TheViews.{out-Command}
 use Rattle.clap.specs.declared.error.kind.ErrorKind.{ErrorKind}
 use Rattle.clap.specs.declared.error.kind.ErrorKind.TheVariants.{DisplayHelp}
 use Rattle.clap.specs.declared.builder.value_parser.ValueParser.TheVariants.{Signed}
+use Rattle.command_line.specs.Http.{IsHttpFault}
 use Rattle.command_line.specs.declared.formats.Format.{Format}
 use Rattle.command_line.specs.declared.formats.Format.TheVariants.{Csv, GeoJson, GeoJsonSeq}
 use Rattle.command_line.specs.declared.shells.Shell.{Shell}
 use Rattle.command_line.specs.declared.shells.Shell.TheVariants.{Bash, Fish, Zsh}
-use Rattle.command_line.specs.declared.options.TheConstants.{CONNECTION_LIMIT, FIRST_ID_LIMIT, IDLE_LIMIT, WORKER_LIMIT}
+use Rattle.command_line.specs.declared.options.TheConstants.{CONNECTION_LIMIT, FEATURE_LIMIT, FIRST_ID_LIMIT, HTTP_WORKER_LIMIT, IDLE_LIMIT, WORKER_LIMIT}
 use Rattle.command_line.specs.declared.stores.StoreAction.{StoreAction}
 use Rattle.command_line.specs.declared.stores.StoreAction.TheVariants as actions
 use Rattle.command_line.specs.declared.stores.Waits.{Waits}
@@ -52,14 +52,19 @@ IsCommand app command = (app_of command ≡ app) × ((out-Command command).has_g
 abbrev pub subcommand_line : Text → List Rule → App
 subcommand_line name rules = fold with_rule (new_app name) rules
 
--- `script [--config FILE] [--store DIR] FILE`
+-- `--features N`
+abbrev pub features_rule : Rule
+features_rule = up_to FEATURE_LIMIT (option_rule (codes "features"))
+
+-- `script [--config FILE] [--store DIR] [--features N] FILE`
 abbrev pub script_line : App
 script_line = subcommand_line (codes "script")
-    (option_rule (codes "config") ∷ option_rule (codes "store") ∷ needed (new_rule (codes "FILE"))
-    ∷ [])
+    (option_rule (codes "config") ∷ option_rule (codes "store") ∷ features_rule
+    ∷ needed (new_rule (codes "FILE")) ∷ [])
 
 -- `serve --socket PATH [--config FILE] [--connections N] [--workers N] [--idle SECONDS] [--takeover]
--- [--until-stdin-ends] [--store DIR] [--wait WHAT]`
+-- [--until-stdin-ends] [--store DIR] [--wait WHAT] [--http ADDRESS:PORT] [--http-socket PATH]
+-- [--http-workers N] [--features N]`
 abbrev pub serve_line : App
 serve_line = subcommand_line (codes "serve") (
     needed (option_rule (codes "socket")) ∷ option_rule (codes "config") ∷ up_to CONNECTION_LIMIT
@@ -67,7 +72,10 @@ serve_line = subcommand_line (codes "serve") (
     ∷ up_to WORKER_LIMIT (option_rule (codes "workers")) ∷ up_to IDLE_LIMIT
     (option_rule (codes "idle"))
     ∷ flag_rule (codes "takeover") ∷ flag_rule (codes "until-stdin-ends")
-    ∷ option_rule (codes "store") ∷ option_rule (codes "wait") ∷ [])
+    ∷ option_rule (codes "store") ∷ option_rule (codes "wait") ∷ option_rule (codes "http")
+    ∷ option_rule (codes "http-socket") ∷ up_to HTTP_WORKER_LIMIT
+    (option_rule (codes "http-workers"))
+    ∷ features_rule ∷ [])
 
 -- `connect --socket PATH`
 abbrev pub connect_line : App
@@ -212,6 +220,10 @@ abbrev pub NameNoWait : List Text → Type 0
 NameNoWait words = AskFor (codes "serve") words
     × (waits_at (given_by words) (codes "wait") ≡ None)
 
+-- the words ask for a server that cannot answer HTTP as they say
+abbrev pub NameNoHttp : List Text → Type 0
+NameNoHttp words = AskFor (codes "serve") words × IsHttpFault (given_by words)
+
 -- the words ask for what is not done with a store
 abbrev pub NameNoAction : List Text → Type 0
 NameNoAction words = AskFor (codes "store") words
@@ -236,4 +248,4 @@ NameNoServer words = AskFor (codes "import") words × (given_by words (codes "so
 -- the words are wrong
 abbrev pub AreTurnedDown : List Text → Type 0
 AreTurnedDown words = AreRejected words ⊎ (NameNoShell words ⊎ (NameNoFormat words
-    ⊎ (NameNoServer words ⊎ (NameNoWait words ⊎ NameNoAction words))))
+    ⊎ (NameNoServer words ⊎ (NameNoWait words ⊎ (NameNoHttp words ⊎ NameNoAction words)))))

@@ -3,23 +3,26 @@
 ghost use Rattle.std.specs.Prelude.{◌≡◌, codes, map, string_bytes, IfOk};
 ghost use Rattle.clap.specs.Words.{app_of, new_rule};
 ghost use Rattle.command_line.specs.Asking.{IsReading};
-ghost use Rattle.command_line.specs.declared.options.TheConstants.{FIRST_ID_LIMIT};
-ghost use Rattle.command_line.specs.CommandLine.{IsArgument, IsCommand, bare_line, check_line, command_line, completions_line, connect_line, draw_line, export_line, flag_rule, import_line, man_line, needed, option_rule, script_line, serve_line, store_line, up_to};
+ghost use Rattle.command_line.specs.declared.options.TheConstants.{FIRST_ID_LIMIT, HTTP_WORKER_LIMIT};
+ghost use Rattle.command_line.specs.CommandLine.{IsArgument, IsCommand, bare_line, check_line, command_line, completions_line, connect_line, draw_line, export_line, features_rule, flag_rule, import_line, man_line, needed, option_rule, script_line, serve_line, store_line, up_to};
 
 use crate::help_texts::{
     ABOUT, AS_HELP, CHECK_ABOUT, CHECK_CONFIG_HELP, CHECK_EXAMPLES, CHECK_LONG_ABOUT,
     COMPLETIONS_ABOUT, COMPLETIONS_EXAMPLES, COMPLETIONS_LONG_ABOUT, CONFIG_HELP, CONNECT_ABOUT,
     CONNECT_EXAMPLES, CONNECT_LONG_ABOUT, CONNECT_SOCKET_HELP, CONNECTIONS_HELP, DRAW_ABOUT,
     DRAW_EXAMPLES, DRAW_LONG_ABOUT, DRAW_SCRIPT_HELP, EXAMPLES, EXPORT_ABOUT, EXPORT_CLASS_HELP,
-    EXPORT_EXAMPLES, EXPORT_LONG_ABOUT, FIRST_ID_HELP, FORMAT_HELP, GRID_HELP, IDLE_HELP,
-    IMPORT_ABOUT, IMPORT_CLASS_HELP, IMPORT_EXAMPLES, IMPORT_FILE_HELP, IMPORT_LONG_ABOUT,
-    IMPORT_SCRIPT_HELP, LONG_ABOUT, MAN_ABOUT, MAN_EXAMPLES, MAN_LONG_ABOUT, SCRIPT_ABOUT,
-    SCRIPT_EXAMPLES, SCRIPT_FILE_HELP, SCRIPT_LONG_ABOUT, SERVE_ABOUT, SERVE_EXAMPLES,
-    SERVE_LONG_ABOUT, SHELL_HELP, SOCKET_HELP, SPLIT_HELP, STORE_ABOUT, STORE_ACTION_HELP,
-    STORE_EXAMPLES, STORE_FEATURES_HELP, STORE_FOLDER_HELP, STORE_HELP, STORE_LONG_ABOUT,
-    TAKEOVER_HELP, UNTIL_STDIN_ENDS_HELP, WAIT_HELP, WHOLE_HELP, WINDOW_HELP, WORKERS_HELP,
+    EXPORT_EXAMPLES, EXPORT_LONG_ABOUT, FEATURES_HELP, FIRST_ID_HELP, FORMAT_HELP, GRID_HELP,
+    HTTP_HELP, HTTP_SOCKET_HELP, HTTP_WORKERS_HELP, IDLE_HELP, IMPORT_ABOUT, IMPORT_CLASS_HELP,
+    IMPORT_EXAMPLES, IMPORT_FILE_HELP, IMPORT_LONG_ABOUT, IMPORT_SCRIPT_HELP, LONG_ABOUT,
+    MAN_ABOUT, MAN_EXAMPLES, MAN_LONG_ABOUT, SCRIPT_ABOUT, SCRIPT_EXAMPLES, SCRIPT_FILE_HELP,
+    SCRIPT_LONG_ABOUT, SERVE_ABOUT, SERVE_EXAMPLES, SERVE_LONG_ABOUT, SHELL_HELP, SOCKET_HELP,
+    SPLIT_HELP, STORE_ABOUT, STORE_ACTION_HELP, STORE_EXAMPLES, STORE_FEATURES_HELP,
+    STORE_FOLDER_HELP, STORE_HELP, STORE_LONG_ABOUT, TAKEOVER_HELP, UNTIL_STDIN_ENDS_HELP,
+    WAIT_HELP, WHOLE_HELP, WINDOW_HELP, WORKERS_HELP,
 };
-use crate::options::{CONNECTION_LIMIT, FIRST_ID_LIMIT, IDLE_LIMIT, WORKER_LIMIT};
+use crate::options::{
+    CONNECTION_LIMIT, FEATURE_LIMIT, FIRST_ID_LIMIT, HTTP_WORKER_LIMIT, IDLE_LIMIT, WORKER_LIMIT,
+};
 use clap::error::ErrorKind;
 use clap::{Arg, ArgAction, ArgMatches, Command, Error, value_parser};
 use std::alloc::{AllocError, Global};
@@ -91,6 +94,22 @@ fn place_argument<'a>(alloc: Global, name: &'a str, help: &'a str) -> Arg<'a>
     Arg::new(alloc, name).help(help).required(true)
 }
 
+/// The argument `--features N`.
+fn features_argument<'a>(alloc: Global) -> Arg<'a>
+    ensures { IsArgument features_rule result }
+{
+    let feature_range = value_parser!(u32).range(1..=i64::from(FEATURE_LIMIT));
+    option_argument(alloc, "features", "N", FEATURES_HELP).value_parser(feature_range)
+}
+
+/// The argument `--http-workers N`.
+fn http_workers_argument<'a>(alloc: Global) -> Arg<'a>
+    ensures { IsArgument (up_to HTTP_WORKER_LIMIT (option_rule (codes "http-workers"))) result }
+{
+    let worker_range = value_parser!(u16).range(1..=i64::from(HTTP_WORKER_LIMIT));
+    option_argument(alloc, "http-workers", "N", HTTP_WORKERS_HELP).value_parser(worker_range)
+}
+
 /// The subcommand that runs a script.
 fn script_command<'a>(alloc: Global) -> Result<Command<'a>, AllocError>
     ensures { IfOk result (IsCommand script_line) }
@@ -101,6 +120,7 @@ fn script_command<'a>(alloc: Global) -> Result<Command<'a>, AllocError>
         .after_long_help(SCRIPT_EXAMPLES)
         .arg(option_argument(alloc, "config", "FILE", CONFIG_HELP))?
         .arg(option_argument(alloc, "store", "DIR", STORE_HELP))?
+        .arg(features_argument(alloc))?
         .arg(place_argument(alloc, "FILE", SCRIPT_FILE_HELP))
 }
 
@@ -128,7 +148,11 @@ fn serve_command<'a>(alloc: Global) -> Result<Command<'a>, AllocError>
         .arg(flag_argument(alloc, "takeover", TAKEOVER_HELP))?
         .arg(flag_argument(alloc, "until-stdin-ends", UNTIL_STDIN_ENDS_HELP))?
         .arg(option_argument(alloc, "store", "DIR", STORE_HELP))?
-        .arg(option_argument(alloc, "wait", "WHAT", WAIT_HELP))
+        .arg(option_argument(alloc, "wait", "WHAT", WAIT_HELP))?
+        .arg(option_argument(alloc, "http", "ADDRESS:PORT", HTTP_HELP))?
+        .arg(option_argument(alloc, "http-socket", "PATH", HTTP_SOCKET_HELP))?
+        .arg(http_workers_argument(alloc))?
+        .arg(features_argument(alloc))
 }
 
 /// The subcommand that talks with a server.

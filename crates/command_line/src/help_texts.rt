@@ -97,6 +97,8 @@ Exit status:
 
 pub(crate) const STORE_HELP: &str = "Keeps all in this folder, and begins with its state";
 
+pub(crate) const FEATURES_HELP: &str = "The most features, 1 to 4000000 [default: 100000]";
+
 pub(crate) const SCRIPT_FILE_HELP: &str = "The script: lines `label: command`; `-`: standard input";
 
 pub(crate) const CONFIG_HELP: &str = "The subjects and the first policies, as JSON";
@@ -143,6 +145,11 @@ connection of a server that does.
 A client is whoever its HELLO says. Who may connect is up to the rights of the
 socket's folder.
 
+With --http ADDRESS:PORT, as 127.0.0.1:8080 or [::1]:8080, or --http-socket PATH
+HTTP is answered as well, so that GIS programs and browsers read the features as
+OGC API - Features. docs/HTTP.md tells what is answered, and what has to be in
+the configuration for it.
+
 docs/SESSIONS.md tells what each reply and each `error CODE` means.";
 
 pub(crate) const SOCKET_HELP: &str = "Where the Unix socket is bound";
@@ -157,7 +164,13 @@ pub(crate) const TAKEOVER_HELP: &str = "Takes over a socket that nobody listens 
 
 pub(crate) const UNTIL_STDIN_ENDS_HELP: &str = "Accepts nobody once standard input ends";
 
-pub(crate) const WAIT_HELP: &str = "What replies wait for: all or changes [default: all]";
+pub(crate) const WAIT_HELP: &str = "What replies wait for: all, changes [default: all]";
+
+pub(crate) const HTTP_HELP: &str = "Also answers HTTP at this address of the machine";
+
+pub(crate) const HTTP_SOCKET_HELP: &str = "Also answers HTTP on this socket, for a proxy";
+
+pub(crate) const HTTP_WORKERS_HELP: &str = "How many of HTTP at a time, 1 to 1024 [default: 8]";
 
 pub(crate) const SERVE_EXAMPLES: &str = r#"Examples:
   `landmap serve --socket map.sock` writes
@@ -185,6 +198,9 @@ pub(crate) const SERVE_EXAMPLES: &str = r#"Examples:
 
   landmap serve --socket map.sock --store /var/lib/landmap
     keeps all in that folder, and goes on there when it is started again
+
+  landmap serve --socket map.sock --config map.json --http 127.0.0.1:8080
+    answers HTTP, too, as at http://127.0.0.1:8080/collections
 
   landmap serve --socket map.sock --connections 100
     serves a hundred sessions, and ends

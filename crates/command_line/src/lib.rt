@@ -5,6 +5,7 @@
 mod commands;
 mod formats;
 mod help_texts;
+mod http;
 mod laws;
 mod options;
 mod shells;
@@ -15,9 +16,11 @@ mod words;
 
 pub use commands::{NoMemoryForWords, WordsFault, host_words};
 pub use formats::Format;
+pub use http::HttpWord;
 pub use laws::option_limits_in_numbers;
 pub use options::{
-    CONNECTION_LIMIT, DEFAULT_WORKERS, FIRST_ID_LIMIT, IDLE_LIMIT, ServerOptions, WORKER_LIMIT,
+    CONNECTION_LIMIT, DEFAULT_HTTP_WORKERS, DEFAULT_WORKERS, FEATURE_LIMIT, FIRST_ID_LIMIT,
+    HTTP_WORKER_LIMIT, IDLE_LIMIT, ServerOptions, WORKER_LIMIT,
 };
 pub use shells::Shell;
 pub use stores::{StoreAction, StoreWords, Waits};

@@ -12,6 +12,15 @@ pub const DEFAULT_WORKERS: u16 = 4;
 /// The greatest idle time, in seconds: a day.
 pub const IDLE_LIMIT: u32 = 86_400;
 
+/// The most connections of HTTP that are answered side by side.
+pub const HTTP_WORKER_LIMIT: u16 = 1024;
+
+/// The connections of HTTP that are answered side by side if the command line gives no number.
+pub const DEFAULT_HTTP_WORKERS: u16 = 8;
+
+/// The most features that `--features` allows.
+pub const FEATURE_LIMIT: u32 = 4_000_000;
+
 /// The greatest id that `--first-id` gives.
 pub const FIRST_ID_LIMIT: u32 = 4_294_967_295;
 

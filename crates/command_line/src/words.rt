@@ -6,6 +6,7 @@ ghost use Rattle.command_line.specs.CommandLine.{refusals};
 ghost use Rattle.command_line.specs.Asking.{HasFiles, HasOptions, IsAsked, IsAskedServer, IsAskedShell, IsGiven};
 
 use crate::commands::{NoMemoryForWords, Reading, clap_reading};
+use crate::http::{HttpWord, asked_http};
 use crate::options::{DEFAULT_WORKERS, ServerOptions};
 use crate::shells::{Shell, shell_named};
 use crate::stores::{StoreWords, Waits, asked_store, waits_of};
@@ -30,6 +31,14 @@ pub enum Shown<'a> {
     NoWait(&'a str),
     /// Nothing of this name is done with a store.
     NoAction(&'a str),
+    /// `--http` gives no address.
+    NoAddress(&'a str),
+    /// `--http` gives an address that is none of the machine itself.
+    FarAddress(&'a str),
+    /// HTTP is to be answered at two places.
+    TwoPlaces,
+    /// HTTP is to be answered by a server that ends after some connections.
+    EndOfHttp,
 }
 
 impl fmt::Display for Shown<'_> {
@@ -54,6 +63,20 @@ impl fmt::Display for Shown<'_> {
             Shown::NoAction(name) => write!(
                 f,
                 "error: invalid value '{name}' for '<ACTION>'\n  [possible values: check, list, export]\n\nFor more information, try '--help'.\n"
+            ),
+            Shown::NoAddress(text) => write!(
+                f,
+                "error: invalid value '{text}' for '--http <ADDRESS:PORT>'\n  an address and a port are wanted, as 127.0.0.1:8080 or [::1]:8080\n\nFor more information, try '--help'.\n"
+            ),
+            Shown::FarAddress(text) => write!(
+                f,
+                "error: invalid value '{text}' for '--http <ADDRESS:PORT>'\n  HTTP is answered on this machine alone; put a proxy in front (docs/HTTP.md)\n\nFor more information, try '--help'.\n"
+            ),
+            Shown::TwoPlaces => f.write_str(
+                "error: the argument '--http <ADDRESS:PORT>' cannot be used with:\n  --http-socket <PATH>\n\nFor more information, try '--help'.\n",
+            ),
+            Shown::EndOfHttp => f.write_str(
+                "error: the argument '--connections <N>' cannot be used with:\n  --http <ADDRESS:PORT>\n  --http-socket <PATH>\n\nFor more information, try '--help'.\n",
             ),
         }
     }
@@ -97,6 +120,8 @@ pub struct ScriptWords<'a> {
     pub config: Option<&'a str>,
     /// The folder of the store; `None` where nothing is kept.
     pub store: Option<&'a str>,
+    /// The most features that there may be, 1 to `FEATURE_LIMIT`; `None` for the usual number.
+    pub features: Option<u32>,
 }
 
 /// What `serve` is given.
@@ -108,6 +133,13 @@ pub struct ServeWords<'a> {
     pub store: Option<&'a str>,
     /// For which records replies wait, where there is a store.
     pub waits: Waits,
+    /// Where HTTP is answered; `None`: nowhere.
+    pub http: Option<HttpWord<'a>>,
+    /// How many connections of HTTP are answered side by side, 1 to `HTTP_WORKER_LIMIT`; `None` for
+    /// `DEFAULT_HTTP_WORKERS`.
+    pub http_workers: Option<u16>,
+    /// The most features that there may be, 1 to `FEATURE_LIMIT`; `None` for the usual number.
+    pub features: Option<u32>,
     /// All other options.
     pub options: ServerOptions<'a>,
 }
@@ -124,6 +156,7 @@ fn script_words<'a>(given: &ArgMatches<'a>) -> ScriptWords<'a>
         script,
         config: given.get_str("config"),
         store: given.get_str("store"),
+        features: given.get_one::<u32>("features"),
     }
 }
 
@@ -145,7 +178,8 @@ fn server_options<'a>(given: &ArgMatches<'a>) -> ServerOptions<'a>
     }
 }
 
-/// The arguments of `serve`, or a mistake, where `--wait` says neither of its words.
+/// The arguments of `serve`, or a mistake, where `--wait` says neither of its words, or where HTTP
+/// cannot be answered as the words say.
 fn asked_serve<'a>(given: &ArgMatches<'a>) -> Asked<'a>
     requires { IsGiven (codes "serve") (rows_of (found_of given.now)) }
     ensures { IsAskedServer (λ id. first_of id (rows_of (found_of given.now))) result }
@@ -155,10 +189,17 @@ fn asked_serve<'a>(given: &ArgMatches<'a>) -> Asked<'a>
     let Some(waits) = waits_of(wait) else {
         return Asked::Mistake(Shown::NoWait(wait.unwrap_or("")));
     };
+    let http = match asked_http(given) {
+        Ok(http) => http,
+        Err(mistake) => return Asked::Mistake(mistake),
+    };
     Asked::Serve(ServeWords {
         config: given.get_str("config"),
         store: given.get_str("store"),
         waits,
+        http,
+        http_workers: given.get_one::<u16>("http-workers"),
+        features: given.get_one::<u32>("features"),
         options,
     })
 }

@@ -1,5 +1,5 @@
 -- Grids of an origin and decimals.
-use Rattle.std.proofs.Common.{◌≡◌, ◌<◌, ◌≤◌, ℕ, ℤ, Bool, true, false, List, Result, Ok, Err, Option, Some, None, if◌then◌else◌, nat_le, refl, sym, ap, ◌∙◌, subst, arith}
+use Rattle.std.proofs.Common.{◌≡◌, ◌<◌, ◌≤◌, ℕ, ℤ, true, false, List, Result, Ok, Err, Option, Some, nat_le, refl, arith}
 use Rattle.grid.specs.Grids.{IsGridOf, first_of_two, grid_fault, origin_of}
 use Rattle.grid.specs.declared.faults.GridFault.{GridFault}
 use Rattle.grid.specs.declared.grids.Axis.TheVariants.{X, Y}
@@ -10,9 +10,10 @@ use Rattle.features.specs.declared.actors.Subject.{Subject}
 use Rattle.policy_documents.specs.Documents.{DocumentData}
 use Rattle.serde_json.specs.Data.{Data, Items}
 use Rattle.configuration.specs.ConfigFaults.{Fails}
-use Rattle.configuration.specs.Configs.{◌>>=◌, ConfigData, GridData, config_from, grid_at, grid_data, grid_from, grid_member, of_steps, policies_in, subjects_in, taken_over}
+use Rattle.configuration.specs.Configs.{GridData, config_from, grid_at, grid_data, grid_from, grid_member, of_steps, policies_in, subjects_in, taken_over, value_of}
 use Rattle.configuration.specs.declared.config_faults.ConfigFault.{ConfigFault}
 use Rattle.configuration.specs.declared.config_faults.ConfigFault.TheVariants as faults
+use Rattle.configuration.specs.declared.fields.MemberName.TheVariants as member_names
 use Rattle.configuration.proofs.ConfigLemmas.{Fails-bind}
 
 at_most : (n m : ℕ) → n ≤ m → nat_le n m ≡ true
@@ -47,9 +48,9 @@ pub too_many : (x y : List ℕ) (decimals : ℕ) (between : Between) → MOST_DE
 unfolding grid_from
 too_many x y decimals between more = rw (beyond decimals MOST_DECIMALS more) refl
 
--- a fault of the grid, behind all else that was read
-pub grid-fails : (items : Items) (policies : Data) (grid : Option Data) (given subjects : List Subject) (document : DocumentData) (e : ConfigFault) → subjects_in items ≡ Ok given → taken_over given ≡ Ok subjects → policies_in policies ≡ Ok document →
-    Fails e (grid_member grid) → Fails e (config_from items policies grid)
+-- a fault of the grid, behind all that was read before it
+pub grid-fails : (items : Items) (policies d : Data) (grid : Option Data) (given subjects : List Subject) (document : DocumentData) (e : ConfigFault) → subjects_in items ≡ Ok given → taken_over given ≡ Ok subjects → policies_in policies ≡ Ok document →
+    grid ≡ value_of member_names.Grid d → Fails e (grid_member grid) → Fails e (config_from items policies d)
 unfolding config_from
-grid-fails items policies grid given subjects document e each taken read h =
-    rw (each, taken, read) (Fails-bind e (grid_member grid) (λ found. Ok (record { subjects = subjects; document = document; grid = found })) h)
+grid-fails items policies d grid given subjects document e each taken read under h =
+    rw (each, taken, read, ← under) (Fails-bind e (grid_member grid) _ h)

@@ -3,3 +3,4 @@ pub mod FileLemmas
 pub mod PermitLemmas
 pub mod SpellingLaws
 pub mod GridLemmas
+pub mod WebLemmas

@@ -1,8 +1,8 @@
 -- Which rules below a node permit, by the node's children.
-use Rattle.std.proofs.Common.{◌≡◌, ◌∙◌, Bool, List, [], ◌∷◌, ◌++◌, ap, map, refl, sym}
+use Rattle.std.proofs.Common.{◌≡◌, ◌∙◌, Bool, List, [], ◌∷◌, ◌++◌, ap, map, refl}
 use Rattle.std.specs.List.{flat_map}
 use Rattle.std.proofs.lemmas.List.{map-append}
-use Rattle.policy_documents.specs.Documents.{NodeData, RuleData, children_of, rules_of, rules_of_all}
+use Rattle.policy_documents.specs.Documents.{NodeData, children_of, rules_of, rules_of_all}
 use Rattle.policy_documents.specs.Views.{node_view}
 use Rattle.policy_documents.specs.declared.nodes.Node.{Node, Policy, Set}
 use Rattle.policy_documents.proofs.NodeLemmas.{node_view-Policy, node_view-Set}

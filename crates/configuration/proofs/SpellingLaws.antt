@@ -13,7 +13,8 @@ use Rattle.features.specs.declared.actors.SubjectsFault.TheVariants as lists
 use Rattle.policy_documents.specs.Documents.{DocumentData}
 use Rattle.policy_text.specs.Reading.{document_in}
 use Rattle.policy_text.specs.declared.faults.TextFault.{TextFault}
-use Rattle.configuration.specs.Configs.{◌>>=◌, ConfigData, GridData, config_from, config_in, config_keys, config_of, flag_in, grid_member, has_only, name_in, object_in, of_list, of_policies, policies_in, steward_in, subject_in, subject_keys, subjects_in, taken_over, value_of}
+use Rattle.configuration.specs.Configs.{◌>>=◌, ConfigData, GridData, config_from, config_in, config_keys, config_of, flag_in, grid_member, has_only, name_in, object_in, of_list, of_policies, policies_in, steward_in, subject_in, subject_keys, subjects_in, taken_over, value_of, web_in}
+use Rattle.configuration.specs.Web.{WebData}
 use Rattle.configuration.specs.Spelling.{IsObject, HasName, IsFlag, SpellsSubject, SpellsSubjects, SpellsConfig, Spells}
 use Rattle.configuration.specs.declared.config_faults.ConfigFault.{ConfigFault}
 use Rattle.configuration.specs.declared.config_faults.ConfigFault.TheVariants as faults
@@ -137,8 +138,8 @@ array-under (Some (string s)) items told = absurd cc
 array-under (Some (array ds)) items told = cc
 array-under (Some (object ms)) items told = absurd cc
 
-abbrev config_with : List Subject → DocumentData → Option GridData → ConfigData
-config_with subjects document grid = record { subjects = subjects; document = document; grid = grid }
+abbrev config_with : List Subject → DocumentData → Option GridData → WebData → ConfigData
+config_with subjects document grid web = record { subjects = subjects; document = document; grid = grid; web = web }
 
 config-found : (d : Data) (c : ConfigData) → config_in d ≡ Ok c → SpellsConfig d c
 unfolding config_in config_from
@@ -148,9 +149,9 @@ config-found d c told =
     bound (ok_or (value_of member_names.Policies d) faults.Form) _ c t2 (λ policies has_policies t3.
     bound (subjects_in items) _ c t3 (λ given each t4. bound (taken_over given) _ c t4 (λ taken is_taken t5.
     bound (policies_in policies) _ c t5 (λ document has_document t6.
-    bound (grid_member (value_of member_names.Grid d)) _ c t6 (λ grid has_grid t7.
+    bound (grid_member (value_of member_names.Grid d)) _ c t6 (λ grid has_grid t7. bound (web_in taken d) _ c t7 (λ web has_web t8.
     let taken_as = taken-found given taken is_taken in
-    subst (SpellsConfig d) (ap (λ ss. config_with ss document grid) taken_as.same ∙ same_value (config_with taken document grid) c t7) (record {
+    subst (SpellsConfig d) (ap (λ ss. config_with ss document grid web) taken_as.same ∙ same_value (config_with taken document grid web) c t8) (record {
       is_object = object-found config_keys d u is_object;
       items = items;
       has_subjects = array-under (value_of member_names.Subjects d) items (some_of _ faults.Form items has_items);
@@ -162,7 +163,8 @@ config-found d c told =
       has_policies = some_of (value_of member_names.Policies d) faults.Form policies has_policies;
       document = document-found (document_in policies) document has_document;
       grid = has_grid;
-    }))))))))
+      web = subst (λ ss. web_in ss d ≡ Ok web) (sym taken_as.same) has_web;
+    })))))))))
 
 abbrev of_value : Option Data → Result ConfigData ConfigFault
 of_value o = ok_or o faults.NotJson >>= config_in
@@ -222,7 +224,7 @@ config-again d c h =
     (onward (subjects_in h.items) _ c.subjects _ (subjects-again h.items c.subjects h.each)
     (onward (taken_over c.subjects) _ c.subjects _ (taken-again c.subjects h.some h.fit h.distinct)
     (onward (policies_in h.policies) _ c.document _ (ap of_policies h.document)
-    (onward (grid_member (value_of member_names.Grid d)) _ c.grid _ h.grid refl))))))
+    (onward (grid_member (value_of member_names.Grid d)) _ c.grid _ h.grid (onward (web_in c.subjects d) _ c.web _ h.web refl)))))))
 
 pub again : (text : List ℕ) (c : ConfigData) → Spells text c → config_of text ≡ Ok c
 unfolding config_of

@@ -1,5 +1,5 @@
 -- What is told of a configuration.
-use Rattle.std.specs.Prelude.{◌≡◌, ◌≤◌, ◌-ℤ◌, pos, ℕ, List, [], ◌++◌, codes, length, Option, None, Some, IfSome, option_map, Result, Ok, Err}
+use Rattle.std.specs.Prelude.{◌≡◌, ◌≤◌, ◌-ℤ◌, ◌&&◌, pos, ℕ, Bool, List, [], ◌++◌, codes, length, nat_eq, if◌then◌else◌, is_none, Option, None, Some, IfSome, option_map, Result, Ok, Err}
 use Rattle.std.specs.Fmt.{decimal}
 use Rattle.serde_json.specs.Data.{Data}
 use Rattle.serde_json.specs.Read.{read}
@@ -10,9 +10,10 @@ use Rattle.grid.specs.declared.grids.Grid.{Grid}
 use Rattle.plane.specs.declared.point.TheConstants.{LIMIT}
 use Rattle.configuration.specs.ConfigFaults.{Fails, config_code_of}
 use Rattle.configuration.specs.ConfigFiles.{IsUnread}
-use Rattle.configuration.specs.Configs.{ConfigData, config_of, grid_data}
+use Rattle.configuration.specs.Configs.{ConfigData, config_of, grid_data, web_data}
 use Rattle.configuration.specs.Places.{LeadsTo, place_text}
 use Rattle.configuration.specs.Summaries.{summary_of, summary_text}
+use Rattle.configuration.specs.Web.{WebData}
 use Rattle.configuration.specs.declared.checking.Checked.{Checked}
 use Rattle.configuration.specs.declared.checking.Checked.TheVariants.{Right, Wrong}
 use Rattle.configuration.specs.declared.config_faults.ConfigFault.{ConfigFault}
@@ -32,9 +33,10 @@ abbrev pub IsPlaceOf : ConfigFault → List ℕ → List PathPart → Type 0
 IsPlaceOf fault text place = (value : Data) × (read text ≡ Some value) × LeadsTo fault place value
 
 -- the text is read as a configuration, which has this
-abbrev pub IsRight : Summary → Option Grid → List ℕ → Type 0
-IsRight summary grid text = (config : ConfigData) × (config_of text ≡ Ok config)
+abbrev pub IsRight : Summary → Option Grid → WebData → List ℕ → Type 0
+IsRight summary grid web text = (config : ConfigData) × (config_of text ≡ Ok config)
     × (summary ≡ summary_of config) × (option_map grid_data grid ≡ config.grid)
+    × (web ≡ config.web)
 
 -- this is the first fault of the text; the place, if one is told, is that of the fault
 abbrev pub IsWrong : ConfigFault → Option (List PathPart) → List ℕ → Type 0
@@ -44,7 +46,7 @@ abbrev pub parts_of : {A : Type 0} → Option (Place A) → Option (List PathPar
 parts_of place = option_map (λ place. place.parts.items) place
 
 abbrev pub IsCheckOf : {A : Type 0} → List ℕ → Checked A → Type 0
-IsCheckOf text (Right summary grid) = IsRight summary grid text
+IsCheckOf text (Right summary grid web) = IsRight summary grid (web_data web) text
 IsCheckOf text (Wrong fault place) = IsWrong fault (parts_of place) text
 
 -- the byte, within the text of a zone's shape, at which that is at fault
@@ -110,8 +112,35 @@ abbrev pub grid_part : Option Grid → List ℕ
 grid_part None = []
 grid_part (Some grid) = grid_text grid
 
+-- nothing is said of HTTP
+abbrev pub is_silent : WebData → Bool
+is_silent web = is_none web.anonymous && is_none web.public && nat_eq (length web.collections) 0
+
+abbrev pub collections_word : ℕ → List ℕ
+collections_word count = if nat_eq count 1 then codes " collection" else codes " collections"
+
+abbrev pub links_part : Option (List ℕ) → List ℕ
+links_part None = []
+links_part (Some public) = codes ", links begin with " ++ public
+
+abbrev pub asker_part : Option (List ℕ) → List ℕ
+asker_part None = []
+asker_part (Some name) = codes ", requests without a name are " ++ (name ++ codes "'s")
+
+-- what is said of HTTP: how many collections there are, what links begin with, and whose requests
+-- are that do not say who asks
+abbrev pub web_text : WebData → List ℕ
+web_text web =
+    codes "http: " ++ (decimal (length web.collections)
+    ++ (collections_word (length web.collections)
+    ++ (links_part web.public ++ (asker_part web.anonymous ++ codes "\n"))))
+
+abbrev pub web_part : WebData → List ℕ
+web_part web = if is_silent web then [] else web_text web
+
 abbrev pub checked_text : {A : Type 0} → Checked A → List ℕ
-checked_text (Right summary grid) = summary_text summary ++ grid_part grid
+checked_text (Right summary grid web) =
+    summary_text summary ++ (grid_part grid ++ web_part (web_data web))
 checked_text (Wrong fault place) = wrong_text fault (parts_of place)
 
 -- what a file gives, by the bytes that it has left, if they are known

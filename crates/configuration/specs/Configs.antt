@@ -1,5 +1,5 @@
 -- Configurations: the configuration, or the first fault, that the JSON value of a text is read as.
-use Rattle.std.specs.Prelude.{ℕ, ℤ, ◌&&◌, Bool, true, false, List, [], ◌∷◌, codes, if◌then◌else◌, Option, Some, None, is_some, nat_le, option_and_then, option_map, Result, Ok, Err}
+use Rattle.std.specs.Prelude.{ℕ, ℤ, ◌&&◌, Bool, true, false, List, [], ◌∷◌, codes, if◌then◌else◌, Option, Some, None, is_some, nat_le, option_and_then, option_map, string_bytes, Result, Ok, Err}
 use Rattle.std.specs.List.{list_any}
 use Rattle.std.specs.Option.{ok_or}
 use Rattle.std.specs.Str.{bytes_eq, is_utf8}
@@ -12,7 +12,6 @@ use Rattle.features.specs.declared.actors.Subject.{Subject}
 use Rattle.features.specs.declared.actors.SubjectsFault.{SubjectsFault}
 use Rattle.grid.specs.Grids.{origin_of}
 use Rattle.grid.specs.declared.faults.GridFault.{GridFault}
-use Rattle.grid.specs.declared.grids.Axis.{Axis}
 use Rattle.grid.specs.declared.grids.Axis.TheVariants.{X, Y}
 use Rattle.grid.specs.declared.grids.Between.{Between}
 use Rattle.grid.specs.declared.grids.Between.TheVariants.{Nearest, Refuse}
@@ -21,11 +20,13 @@ use Rattle.grid.specs.declared.grids.TheConstants.{MOST_DECIMALS}
 use Rattle.policy_documents.specs.Documents.{DocumentData}
 use Rattle.policy_text.specs.Reading.{document_in}
 use Rattle.policy_text.specs.declared.faults.TextFault.{TextFault}
+use Rattle.configuration.specs.Web.{WebData, are_collections, name_at, public_at, subject_at}
 use Rattle.configuration.specs.declared.configs.Config.{Config}
 use Rattle.configuration.specs.declared.config_faults.ConfigFault.{ConfigFault}
 use Rattle.configuration.specs.declared.config_faults.ConfigFault.TheVariants as faults
 use Rattle.configuration.specs.declared.fields.MemberName.{MemberName}
 use Rattle.configuration.specs.declared.fields.MemberName.TheVariants as member_names
+use Rattle.configuration.specs.declared.web.Web.{Web}
 
 -- a grid as plain data: its origin in steps, its decimals, and what becomes of a number between two
 -- steps
@@ -43,11 +44,24 @@ pub record ConfigData : Type 0 where
   pub subjects : List Subject
   pub document : DocumentData
   pub grid : Option GridData
+  pub web : WebData
+
+-- the plain data of a `Web`, without its place in memory
+abbrev pub web_data : {A : Type 0} → Web A → WebData
+web_data w = record {
+  anonymous = w.anonymous;
+  public = option_map (λ text. string_bytes text) w.public;
+  collections = w.collections.items;
+}
 
 -- the plain data of a `Config`, without its place in memory
 abbrev pub config_data : {A : Type 0} → Config A → ConfigData
-config_data c =
-    record { subjects = c.subjects; document = c.document; grid = option_map grid_data c.grid }
+config_data c = record {
+  subjects = c.subjects;
+  document = c.document;
+  grid = option_map grid_data c.grid;
+  web = web_data c.web;
+}
 
 infixl 10 ◌>>=◌
 abbrev pub ◌>>=◌ : {A B : Type 0} → Result A ConfigFault → (A → Result B ConfigFault)
@@ -60,6 +74,9 @@ abbrev pub key_text : MemberName → List ℕ
 key_text member_names.Subjects = codes "subjects"
 key_text member_names.Policies = codes "policies"
 key_text member_names.Grid = codes "grid"
+key_text member_names.Anonymous = codes "anonymous"
+key_text member_names.Public = codes "public"
+key_text member_names.Collections = codes "collections"
 key_text member_names.Origin = codes "origin"
 key_text member_names.Decimals = codes "decimals"
 key_text member_names.Between = codes "between"
@@ -135,7 +152,8 @@ abbrev pub policies_in : Data → Result DocumentData ConfigFault
 policies_in d = of_policies (document_in d)
 
 abbrev pub config_keys : List MemberName
-config_keys = member_names.Subjects ∷ member_names.Policies ∷ member_names.Grid ∷ []
+config_keys = member_names.Subjects ∷ member_names.Policies ∷ member_names.Grid
+    ∷ member_names.Anonymous ∷ member_names.Public ∷ member_names.Collections ∷ []
 
 abbrev pub grid_keys : List MemberName
 grid_keys = member_names.Origin ∷ member_names.Decimals ∷ member_names.Between ∷ []
@@ -193,21 +211,56 @@ abbrev pub grid_member : Option Data → Result (Option GridData) ConfigFault
 grid_member None = Ok None
 grid_member (Some d) = grid_in d >>= λ grid. Ok (Some grid)
 
--- the configuration of an array of subjects, of policies, and of a grid, if there is one. The faults
--- in order: of a subject, of the list of subjects, of the document, of the grid
-unfoldable pub config_from : Items → Data → Option Data → Result ConfigData ConfigFault
-config_from listed policies grid =
+-- the subject under the key, if there is one
+abbrev pub anonymous_member : List Subject → Option Data → Result (Option (List ℕ)) ConfigFault
+anonymous_member subjects None = Ok None
+anonymous_member subjects (Some d) = ok_or (subject_at subjects d) faults.Form >>= λ name.
+    Ok (Some name)
+
+-- what links begin with, if something is under the key
+abbrev pub public_member : Option Data → Result (Option (List ℕ)) ConfigFault
+public_member None = Ok None
+public_member (Some d) = ok_or (public_at d) faults.Form >>= λ text. Ok (Some text)
+
+-- the names of an array, in order
+unfoldable pub names_in : Items → Result (List (List ℕ)) ConfigFault
+names_in no_items = Ok []
+names_in (item d rest) = ok_or (name_at d) faults.Form >>= λ first. names_in rest >>= λ others. Ok
+    (first ∷ others)
+
+-- the collections of an array
+abbrev pub collections_in : Items → Result (List (List ℕ)) ConfigFault
+collections_in listed = names_in listed >>= λ names. if are_collections names then Ok names
+    else Err faults.Form
+
+-- the collections under the key; none, if nothing is there
+abbrev pub collections_member : Option Data → Result (List (List ℕ)) ConfigFault
+collections_member None = Ok []
+collections_member (Some d) = ok_or (as_array d) faults.Form >>= collections_in
+
+-- what a configuration with these subjects says of HTTP
+unfoldable pub web_in : List Subject → Data → Result WebData ConfigFault
+web_in subjects d =
+    anonymous_member subjects (value_of member_names.Anonymous d) >>= λ anonymous. public_member
+    (value_of member_names.Public d) >>= λ public.
+    collections_member (value_of member_names.Collections d) >>= λ collections.
+    Ok (record { anonymous = anonymous; public = public; collections = collections })
+
+-- the configuration of an array of subjects, of policies, and of what else its value has: a grid,
+-- and what is said of HTTP. The faults in order: of a subject, of the list of subjects, of the
+-- document, of the grid, of HTTP
+unfoldable pub config_from : Items → Data → Data → Result ConfigData ConfigFault
+config_from listed policies d =
     subjects_in listed >>= λ given. taken_over given >>= λ subjects. policies_in policies >>=
-    λ document. grid_member grid >>= λ grid.
-    Ok (record { subjects = subjects; document = document; grid = grid })
+    λ document. grid_member (value_of member_names.Grid d) >>= λ grid. web_in subjects d >>=
+    λ web. Ok (record { subjects = subjects; document = document; grid = grid; web = web })
 
 -- the configuration that a JSON value spells, or its first fault
 unfoldable pub config_in : Data → Result ConfigData ConfigFault
 config_in d =
     object_in config_keys d >>= λ _. ok_or
     (option_and_then as_array (value_of member_names.Subjects d)) faults.Form >>= λ listed.
-    ok_or (value_of member_names.Policies d) faults.Form >>= λ policies. config_from listed policies
-    (value_of member_names.Grid d)
+    ok_or (value_of member_names.Policies d) faults.Form >>= λ policies. config_from listed policies d
 
 -- the configuration that bytes spell, or their first fault; a JSON text is UTF-8
 unfoldable pub config_of : List ℕ → Result ConfigData ConfigFault

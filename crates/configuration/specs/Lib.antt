@@ -5,3 +5,4 @@ pub mod Configs
 pub mod Places
 pub mod Spelling
 pub mod Summaries
+pub mod Web

@@ -1,11 +1,11 @@
 -- Where in a configuration a fault is: the value at a place, and what makes it the one at fault.
-use Rattle.std.specs.Prelude.{◌≡◌, ◌-◌, ◌&&◌, ◌||◌, ℕ, Bool, false, not, List, [], ◌∷◌, ◌++◌, codes, length, nat_eq, slice_get, if◌then◌else◌, IsTrue, Option, None, Some, is_none, is_some, option_and_then, Result, Ok, Err}
+use Rattle.std.specs.Prelude.{◌≡◌, ◌-◌, ◌&&◌, ◌||◌, ℕ, Bool, true, false, not, List, [], ◌∷◌, ◌++◌, codes, length, nat_eq, nat_lt, slice_get, take, if◌then◌else◌, IsTrue, Option, None, Some, is_none, is_some, option_and_then}
 use Rattle.std.specs.Fmt.{decimal}
-use Rattle.std.specs.List.{flat_map}
+use Rattle.std.specs.List.{flat_map, list_any}
 use Rattle.std.specs.Option.{option_map_or}
 use Rattle.std.specs.Result.{is_err}
 use Rattle.std.specs.Str.{bytes_eq}
-use Rattle.serde_json.specs.Data.{Data}
+use Rattle.serde_json.specs.Data.{Data, Items, no_items, item}
 use Rattle.serde_json.specs.Find.{as_array, as_bool, as_str, at, get}
 use Rattle.features.specs.Names.{name_of}
 use Rattle.features.specs.declared.actors.SubjectsFault.{SubjectsFault}
@@ -14,12 +14,16 @@ use Rattle.policy_text.specs.Pointers.{path_text}
 use Rattle.policy_text.specs.declared.faults.TextFault.{TextFault}
 use Rattle.policy_text.specs.declared.faults.TextFault.TheVariants as texts
 use Rattle.wkt.specs.Reading.{shape_of}
-use Rattle.configuration.specs.Configs.{config_keys, grid_in, object_in, subject_keys}
+use Rattle.configuration.specs.Configs.{config_keys, grid_in, object_in, subject_keys, value_of}
+use Rattle.configuration.specs.Web.{public_at}
 use Rattle.configuration.specs.declared.config_faults.ConfigFault.{ConfigFault}
 use Rattle.configuration.specs.declared.config_faults.ConfigFault.TheVariants.{NotJson, Form, Subjects, Policies, Memory}
+use Rattle.configuration.specs.declared.fields.MemberName.{MemberName}
+use Rattle.configuration.specs.declared.fields.MemberName.TheVariants as member_names
 use Rattle.configuration.specs.declared.places.TheConstants.{TOO_DEEP}
 use Rattle.configuration.specs.declared.places.PathPart.{PathPart}
 use Rattle.configuration.specs.declared.places.PathPart.TheVariants.{Item, Member}
+use Rattle.configuration.specs.declared.web.TheConstants.{COLLECTION_LIMIT}
 
 -- ---- places
 
@@ -54,20 +58,76 @@ is_part_to key (Some (Member last)) = bytes_eq last.now key
 abbrev pub ends_in : List ℕ → List PathPart → Bool
 ends_in key place = is_part_to key (last_part place)
 
--- ---- the value at fault
+-- the place is one below this key of the configuration, or the value under it
+abbrev pub begins_in : List ℕ → List PathPart → Bool
+begins_in key place = is_part_to key (slice_get place 0)
+
+-- ---- what is said of HTTP
 
 abbrev pub is_name_text : Data → Bool
 is_name_text d = is_some (option_and_then name_of (as_str d))
 
--- the value has not the form that is wanted behind this part; `None` is the whole configuration
-abbrev pub is_wrong_after : Option PathPart → Data → Bool
-is_wrong_after None d = is_err (object_in config_keys d)
-is_wrong_after (Some (Item index)) d = is_err (object_in subject_keys d)
-is_wrong_after (Some (Member key)) d =
-    if bytes_eq key.now (codes "subjects") then is_none (as_array d)
-    else if bytes_eq key.now (codes "grid") then is_err (grid_in d)
-    else if bytes_eq key.now (codes "steward") then is_none (as_bool d)
+-- the value is this text
+abbrev pub is_text : List ℕ → Data → Bool
+is_text text d = option_map_or (λ s. bytes_eq s text) (as_str d) false
+
+-- the items of an array, as a list
+abbrev pub listed : Items → List Data
+listed no_items = []
+listed (item d rest) = d ∷ listed rest
+
+-- the items under a key of a configuration; none, if there is no array
+abbrev pub items_under : MemberName → Data → List Data
+items_under key config = option_map_or listed (option_and_then as_array (value_of key config)) []
+
+-- this is the name of a subject
+abbrev pub is_named : List ℕ → Data → Bool
+is_named name subject = option_map_or (is_text name) (value_of member_names.Name subject) false
+
+-- the value is the name of a subject of a configuration
+abbrev pub is_subject_in : Data → Data → Bool
+is_subject_in config d = option_map_or
+    (λ name. list_any (is_named name) (items_under member_names.Subjects config)) (as_str d) false
+
+-- the value is no list of collections, or has too many
+abbrev pub is_no_list : Data → Bool
+is_no_list d = option_map_or (λ items. nat_lt COLLECTION_LIMIT (length (listed items))) (as_array d)
+    true
+
+-- the item of this index may not be a collection: it is no name, it is `features`, or it stands
+-- before, too
+abbrev pub is_no_collection : Data → ℕ → Data → Bool
+is_no_collection config index d =
+    not (is_name_text d) || is_text (codes "features") d || option_map_or
+    (λ text. list_any (is_text text) (take index (items_under member_names.Collections config)))
+    (as_str d) false
+
+-- ---- the value at fault
+
+-- the value under a key of a configuration, or of one of its subjects, has not the form that is
+-- wanted there
+abbrev pub is_wrong_member : Data → List ℕ → Data → Bool
+is_wrong_member config key d =
+    if bytes_eq key (codes "subjects") then is_none (as_array d)
+    else if bytes_eq key (codes "grid") then is_err (grid_in d)
+    else if bytes_eq key (codes "anonymous") then not (is_subject_in config d)
+    else if bytes_eq key (codes "public") then is_none (public_at d)
+    else if bytes_eq key (codes "collections") then is_no_list d
+    else if bytes_eq key (codes "steward") then is_none (as_bool d)
     else not (is_name_text d)
+
+-- an item of the subjects or of the collections has not the form that is wanted there
+abbrev pub is_wrong_item : Data → List PathPart → ℕ → Data → Bool
+is_wrong_item config place index d =
+    if begins_in (codes "collections") place then is_no_collection config index d
+    else is_err (object_in subject_keys d)
+
+-- the value has not the form that is wanted at a place with this last part; `None` is the whole
+-- configuration
+abbrev pub is_wrong_there : Data → List PathPart → Option PathPart → Data → Bool
+is_wrong_there config place None d = is_err (object_in config_keys d)
+is_wrong_there config place (Some (Item index)) d = is_wrong_item config place index d
+is_wrong_there config place (Some (Member key)) d = is_wrong_member config key.now d
 
 -- the key of the place must be there
 abbrev pub is_needed : List PathPart → Bool
@@ -75,13 +135,9 @@ is_needed place =
     ends_in (codes "subjects") place || ends_in (codes "policies") place || ends_in (codes "name")
     place || ends_in (codes "office") place || ends_in (codes "role") place
 
-abbrev pub is_wrong_form : List PathPart → Option Data → Bool
-is_wrong_form place None = is_needed place
-is_wrong_form place (Some d) = is_wrong_after (last_part place) d
-
--- the value is this text
-abbrev pub is_text : List ℕ → Data → Bool
-is_text text d = option_map_or (λ s. bytes_eq s text) (as_str d) false
+abbrev pub is_wrong_form : Data → List PathPart → Option Data → Bool
+is_wrong_form config place None = is_needed place
+is_wrong_form config place (Some d) = is_wrong_there config place (last_part place) d
 
 abbrev pub is_wrong_list : SubjectsFault → List PathPart → Data → Bool
 is_wrong_list lists.NameTwice place d = ends_in (codes "name") place && is_name_text d
@@ -109,17 +165,18 @@ is_wrong_policy (texts.Form path) place d = false
 is_wrong_policy (texts.UnknownKey path) place d = false
 is_wrong_policy (texts.Memory refused) place d = false
 
--- the value at a place, if there is one, is the one at fault
-abbrev pub is_wrong : ConfigFault → List PathPart → Option Data → Bool
-is_wrong Form place value = is_wrong_form place value
-is_wrong (Subjects fault) place value = option_map_or (is_wrong_list fault place) value false
-is_wrong (Policies fault) place value = option_map_or (is_wrong_policy fault place) value false
-is_wrong NotJson place value = false
-is_wrong (Memory refused) place value = false
+-- the value at a place of a configuration, if there is one, is the one at fault
+abbrev pub is_wrong : ConfigFault → Data → List PathPart → Option Data → Bool
+is_wrong Form config place value = is_wrong_form config place value
+is_wrong (Subjects fault) config place value = option_map_or (is_wrong_list fault place) value false
+is_wrong (Policies fault) config place value = option_map_or (is_wrong_policy fault place) value
+    false
+is_wrong NotJson config place value = false
+is_wrong (Memory refused) config place value = false
 
 -- the value at a place is the one at fault
 abbrev pub IsWrongAt : ConfigFault → List PathPart → Data → Type 0
-IsWrongAt fault place d = IsTrue (is_wrong fault place (value_at place d))
+IsWrongAt fault place d = IsTrue (is_wrong fault d place (value_at place d))
 
 -- the place of a fault leads to the value at fault: it has the path of the fault, where that has
 -- one

@@ -9,7 +9,7 @@ use Rattle.features.specs.Subjects.{have_distinct_names}
 use Rattle.features.specs.declared.actors.Subject.{Subject}
 use Rattle.features.specs.declared.actors.TheConstants.{SUBJECT_LIMIT}
 use Rattle.policy_text.specs.Reading.{document_in}
-use Rattle.configuration.specs.Configs.{ConfigData, config_keys, grid_member, has_only, subject_keys, value_of}
+use Rattle.configuration.specs.Configs.{ConfigData, config_keys, grid_member, has_only, subject_keys, value_of, web_in}
 use Rattle.configuration.specs.declared.fields.MemberName.{MemberName}
 use Rattle.configuration.specs.declared.fields.MemberName.TheVariants as member_names
 
@@ -57,6 +57,7 @@ pub record SpellsConfig (value : Data) (config : ConfigData) : Type 0 where
   pub has_policies : value_of member_names.Policies value ≡ Some policies
   pub document : document_in policies ≡ Ok config.document
   pub grid : grid_member (value_of member_names.Grid value) ≡ Ok config.grid
+  pub web : web_in config.subjects value ≡ Ok config.web
 
 -- a text spells a configuration
 pub record Spells (text : List ℕ) (config : ConfigData) : Type 0 where

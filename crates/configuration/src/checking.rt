@@ -9,6 +9,8 @@ use crate::files::{FileFault, whole_file};
 use crate::finding::place_of;
 use crate::places::Place;
 use crate::summaries::{Summary, summary_of};
+use crate::web::Web;
+use crate::web_lines::WebLine;
 use grid::{Axis, Grid, NumberText, reach, step_text};
 use memory::{JsonFault, NoMemory, json_value};
 use policy_text::TextFault;
@@ -20,8 +22,8 @@ use wkt::WktFault;
 /// What there is to tell of a configuration.
 #[derive(Debug, Drop)]
 pub enum Checked<A: Allocator> {
-    /// It is right, and has this, and perhaps a grid.
-    Right(Summary, Option<Grid>),
+    /// It is right, and has this, perhaps a grid, and this that is said of HTTP.
+    Right(Summary, Option<Grid>, Web<A>),
     /// It has this fault first, at this place, if that is known.
     Wrong(ConfigFault, Option<Place<A>>),
 }
@@ -88,22 +90,41 @@ impl fmt::Display for GridLines {
     }
 }
 
+/// A grid as it is told, if there is one.
+#[derive(Clone, Copy)]
+struct GridPart {
+    grid: Option<Grid>,
+}
+
+impl fmt::Display for GridPart {
+    ghost use Rattle.std.specs.Prelude.{Some};
+    ghost use Rattle.configuration.specs.Checking.{grid_part};
+
+    ghost output = { λ part. Some (grid_part part.grid) };
+
+    fn fmt<W: fmt::Write>(&self, f: &mut fmt::Formatter<W>) -> fmt::Result {
+        match self.grid {
+            Some(grid) => fmt::Display::fmt(&GridLines { grid }, f),
+            None => Ok(()),
+        }
+    }
+}
+
 impl<A: Allocator> fmt::Display for Checked<A> {
     ghost use Rattle.std.specs.Prelude.{Some};
     ghost use Rattle.configuration.specs.Checking.{checked_text};
 
     ghost output = { λ checked. Some (checked_text checked) };
 
-    /// Of what is right some lines, each a word and a number; of a fault one line: its code and its
-    /// place, and of a zone's shape the byte within its text.
+    /// Of what is right some lines, each a word and a number, and perhaps a line of what is said of
+    /// HTTP; of a fault one line: its code and its place, and of a zone's shape the byte within its
+    /// text.
     fn fmt<W: fmt::Write>(&self, f: &mut fmt::Formatter<W>) -> fmt::Result {
         match self {
-            Checked::Right(summary, grid) => {
+            Checked::Right(summary, grid, web) => {
                 fmt::Display::fmt(summary, f)?;
-                match grid {
-                    Some(grid) => fmt::Display::fmt(&GridLines { grid: *grid }, f),
-                    None => Ok(()),
-                }
+                fmt::Display::fmt(&GridPart { grid: *grid }, f)?;
+                fmt::Display::fmt(&WebLine { web }, f)
             }
             Checked::Wrong(fault, place) => {
                 f.write_str(fault.code())?;
@@ -148,7 +169,7 @@ pub fn check_config<A: Allocator + Copy>(
     match read_config(alloc, heap, text) {
         Ok(config) => {
             let summary = summary_of(alloc, &config)?;
-            Ok(Checked::Right(summary, config.grid))
+            Ok(Checked::Right(summary, config.grid, config.web))
         }
         Err(ConfigFault::Memory(no_memory)) => Err(no_memory),
         Err(fault) => {

@@ -1,6 +1,6 @@
 //! Configurations: who may work on a server, and under which policies.
 
-ghost use Rattle.std.specs.Prelude.{◌≡◌, Err, length, option_map};
+ghost use Rattle.std.specs.Prelude.{◌≡◌, Err, length};
 ghost use Rattle.std.specs.Option.{ok_or};
 ghost use Rattle.serde_json.specs.View.{view, items_view};
 ghost use Rattle.configuration.specs.ConfigFaults.{Gives};
@@ -10,6 +10,7 @@ ghost use Rattle.configuration.specs.declared.config_faults.ConfigFault.TheVaria
 use crate::config_faults::ConfigFault;
 use crate::fields::{MemberName, array_in, is_object_of, name_in, steward_in, value_in};
 use crate::grids::grid_member;
+use crate::web::{Web, web_in};
 use features::{Subject, Subjects};
 use grid::Grid;
 use memory::{GrowVec, json_value};
@@ -17,10 +18,13 @@ use policy_text::{Document, document_of_value};
 use serde_json::Value;
 use std::alloc::{Allocator, Global};
 
-pub(crate) const CONFIG_KEYS: [MemberName; 3] = [
+pub(crate) const CONFIG_KEYS: [MemberName; 6] = [
     MemberName::Subjects,
     MemberName::Policies,
     MemberName::Grid,
+    MemberName::Anonymous,
+    MemberName::Public,
+    MemberName::Collections,
 ];
 
 pub(crate) const SUBJECT_KEYS: [MemberName; 4] = [
@@ -30,7 +34,7 @@ pub(crate) const SUBJECT_KEYS: [MemberName; 4] = [
     MemberName::Steward,
 ];
 
-/// What a server is opened with: its subjects and its first policy document.
+/// What a server is opened with: its subjects, its first policy document, and more if it says so.
 #[derive(Debug, Drop)]
 pub struct Config<A: Allocator> {
     /// The subjects that sessions may name.
@@ -39,6 +43,8 @@ pub struct Config<A: Allocator> {
     pub document: Document<A>,
     /// Which numbers whole coordinates mean in files, if it says so.
     pub grid: Option<Grid>,
+    /// What it says of HTTP.
+    pub web: Web<A>,
 }
 
 /// The subject that a JSON value spells, or `None`.
@@ -89,25 +95,27 @@ fn policies_in<A: Allocator + Copy>(alloc: A, value: &Value) -> Result<Document<
     Ok(document_of_value(alloc, value)?)
 }
 
-/// The configuration made of an array of subjects, a policy document and a grid.
+/// The configuration made of an array of subjects, a policy document, and what else its value has.
 #[tactic(auto, unfolding(crate::specs::Configs::config_from))]
 fn config_from<A: Allocator + Copy>(
     alloc: A,
     items: &[Value],
     policies: &Value,
-    grid: Option<&Value>,
+    value: &Value,
 ) -> Result<Config<A>, ConfigFault>
     ensures { Gives config_data result (config_from (items_view items.now) (view policies.now)
-        (option_map (λ v. view v.now) grid.entry)) }
+        (view value.now)) }
 {
     let given = subjects_in(alloc, items)?;
     let subjects = taken_over(given.as_slice())?;
     let document = policies_in(alloc, policies)?;
-    let grid = grid_member(grid)?;
+    let grid = grid_member(value_in(value, MemberName::Grid))?;
+    let web = web_in(alloc, &subjects, value)?;
     Ok(Config {
         subjects,
         document,
         grid,
+        web,
     })
 }
 
@@ -125,22 +133,26 @@ fn config_in<A: Allocator + Copy>(alloc: A, value: &Value) -> Result<Config<A>, 
     let Some(policies) = value_in(value, MemberName::Policies) else {
         return Err(ConfigFault::Form);
     };
-    config_from(alloc, items, policies, value_in(value, MemberName::Grid))
+    config_from(alloc, items, policies, value)
 }
 
 /// Reads the configuration that a JSON text (RFC 8259) spells: an object with the keys `subjects`
-/// and `policies`, and perhaps `grid`.
+/// and `policies`, and perhaps `grid`, `anonymous`, `public` and `collections`.
 ///
 /// `subjects` is an array of 1 to 64 objects with distinct names. Each has the keys `name`,
 /// `office` and `role`, which are names, and optionally `steward`, true or false (default false).
 /// `policies` is a policy document. `grid` is an object: `origin`, an array of two decimal texts;
 /// `decimals`, 0 to 9; and optionally `between`, `refuse` or `nearest` (default `refuse`).
+/// `anonymous` is the name of one of the subjects. `public` is `http://` or `https://` with 1 to 200
+/// bytes of visible ASCII behind it, none of which is `"`, `#`, `<`, `>`, `?` or `\`, and the last no
+/// slash. `collections` is an array of at most 64 distinct names, none of which is `features`.
 ///
 /// The error is the first in this order: `NotJson` if the text is not JSON or not UTF-8; `Form` if,
 /// outside the policies, a value is missing or of the wrong form, or a key is unknown; `Subjects`
 /// if the list is empty, too long, or has a name twice; `Policies` for the first fault of the
-/// document; `Form` if the grid is at fault. If an allocation is refused, it is `Memory`. The parsed JSON lies in `heap` until this
-/// returns; the document, and a temporary list of the subjects, are allocated in `alloc`.
+/// document; `Form` if the grid is at fault, or what is said of HTTP. If an allocation is refused, it
+/// is `Memory`. The parsed JSON lies in `heap` until this returns; the document, what is said of
+/// HTTP, and a temporary list of the subjects, are allocated in `alloc`.
 pub fn read_config<A: Allocator + Copy>(
     alloc: A,
     heap: Global,

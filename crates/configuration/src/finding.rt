@@ -11,6 +11,8 @@ use crate::fields::{MemberName, array_in, is_object_of, name_in, value_in};
 use crate::grids::grid_in;
 use crate::places::{PathPart, Place, value_at};
 use crate::searches::find_in_policies;
+use crate::web::{COLLECTION_LIMIT, public_at};
+use crate::web_faults::{is_no_collection, is_subject_in};
 use crate::wrongs::is_wrong;
 use features::SubjectsFault;
 use memory::{GrowVec, NoMemory};
@@ -72,6 +74,33 @@ fn find_form<A: Allocator>(value: &Value, place: &mut Vec<PathPart, A>) -> Resul
     if let Some(grid) = value_in(value, MemberName::Grid) {
         if grid_in(grid).is_none() {
             return place.try_push(PathPart::Member("grid"));
+        }
+    }
+    find_web(value, place)
+}
+
+/// Puts the parts to what is wrong of what is said of HTTP.
+fn find_web<A: Allocator>(value: &Value, place: &mut Vec<PathPart, A>) -> Result<(), NoMemory> {
+    if let Some(name) = value_in(value, MemberName::Anonymous) {
+        if !is_subject_in(value, name) {
+            return place.try_push(PathPart::Member("anonymous"));
+        }
+    }
+    if let Some(public) = value_in(value, MemberName::Public) {
+        if public_at(public).is_none() {
+            return place.try_push(PathPart::Member("public"));
+        }
+    }
+    place.try_push(PathPart::Member("collections"))?;
+    let Some(items) = array_in(value, MemberName::Collections) else {
+        return Ok(());
+    };
+    if items.len() > COLLECTION_LIMIT {
+        return Ok(());
+    }
+    for (index, item) in items.iter().enumerate() {
+        if is_no_collection(value, index, item) {
+            return place.try_push(PathPart::Item(index));
         }
     }
     Ok(())
@@ -143,7 +172,7 @@ fn place_found<A: Allocator>(
         (λ found. IfSome found (λ place. IsWrongAt fault.now place.parts.items (view value.now))) }
 {
     let parts = find(alloc, fault, value)?;
-    if is_wrong(fault, &parts, value_at(value, &parts)) {
+    if is_wrong(fault, value, &parts, value_at(value, &parts)) {
         Ok(Some(Place { parts }))
     } else {
         Ok(None)

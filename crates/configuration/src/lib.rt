@@ -12,6 +12,10 @@ mod laws;
 mod places;
 mod searches;
 mod summaries;
+mod texts;
+mod web;
+mod web_faults;
+mod web_lines;
 mod wrongs;
 
 pub use checking::{Checked, check_config, check_config_file};
@@ -21,3 +25,4 @@ pub use files::{CONFIG_LIMIT, FileFault, ReadFault, read_config_file};
 pub use laws::{configurations_are_one, read_is_spelled};
 pub use places::{PathPart, Place};
 pub use summaries::Summary;
+pub use web::{COLLECTION_LIMIT, PUBLIC_LIMIT, Web};

@@ -2,7 +2,7 @@
 
 ghost use Rattle.std.specs.Prelude.{◌≡◌, option_map};
 ghost use Rattle.serde_json.specs.View.{view};
-ghost use Rattle.configuration.specs.Places.{ends_in, value_after, value_at};
+ghost use Rattle.configuration.specs.Places.{begins_in, ends_in, value_after, value_at};
 
 use serde_json::Value;
 use std::alloc::Allocator;
@@ -82,6 +82,16 @@ pub(crate) fn ends_in(key: &str, place: &[PathPart]) -> bool
 {
     match place.last() {
         Some(PathPart::Member(last)) => *last == key,
+        _ => false,
+    }
+}
+
+/// Whether a place is one below this key of the configuration, or the value under it.
+pub(crate) fn begins_in(key: &str, place: &[PathPart]) -> bool
+    ensures { result ≡ begins_in key.now place.now }
+{
+    match place.first() {
+        Some(PathPart::Member(first)) => *first == key,
         _ => false,
     }
 }

@@ -2,56 +2,63 @@
 
 ghost use Rattle.std.specs.Prelude.{◌≡◌, option_map};
 ghost use Rattle.serde_json.specs.View.{view};
-ghost use Rattle.configuration.specs.Places.{is_name_place, is_name_text, is_needed, is_no_shape, is_text, is_wrong, is_wrong_after, is_wrong_form, is_wrong_list, is_wrong_policy, last_part};
+ghost use Rattle.configuration.specs.Places.{is_name_place, is_needed, is_no_shape, is_wrong, is_wrong_form, is_wrong_item, is_wrong_list, is_wrong_member, is_wrong_policy, is_wrong_there, last_part};
 
 use crate::config_faults::ConfigFault;
 use crate::configs::{CONFIG_KEYS, SUBJECT_KEYS};
 use crate::fields::is_object_of;
 use crate::grids::grid_in;
-use crate::places::{PathPart, TOO_DEEP, ends_in};
-use features::{Name, SubjectsFault};
+use crate::places::{PathPart, TOO_DEEP, begins_in, ends_in};
+use crate::texts::{is_name_text, is_text};
+use crate::web::public_at;
+use crate::web_faults::{is_no_collection, is_no_list, is_subject_in};
+use features::SubjectsFault;
 use policy_text::TextFault;
 use serde_json::Value;
 use wkt::read_shape;
 
-/// Whether a value is a name.
-fn is_name_text(value: &Value) -> bool
-    ensures { result ≡ is_name_text (view value.now) }
+/// Whether the value under a key of a configuration, or of one of its subjects, has not the form that
+/// is wanted there.
+fn is_wrong_member(config: &Value, key: &str, value: &Value) -> bool
+    ensures { result ≡ is_wrong_member (view config.now) key.now (view value.now) }
 {
-    match value.as_str() {
-        Some(text) => Name::new(text.as_bytes()).is_some(),
-        None => false,
+    if key == "subjects" {
+        value.as_array().is_none()
+    } else if key == "grid" {
+        grid_in(value).is_none()
+    } else if key == "anonymous" {
+        !is_subject_in(config, value)
+    } else if key == "public" {
+        public_at(value).is_none()
+    } else if key == "collections" {
+        is_no_list(value)
+    } else if key == "steward" {
+        value.as_bool().is_none()
+    } else {
+        !is_name_text(value)
     }
 }
 
-/// Whether a value is this text.
-fn is_text(text: &[u8], value: &Value) -> bool
-    ensures { result ≡ is_text text.now (view value.now) }
+/// Whether an item of the subjects or of the collections has not the form that is wanted there.
+fn is_wrong_item(config: &Value, place: &[PathPart], index: usize, value: &Value) -> bool
+    ensures { result ≡ is_wrong_item (view config.now) place.now index (view value.now) }
 {
-    match value.as_str() {
-        Some(given) => given.as_bytes() == text,
-        None => false,
+    if begins_in("collections", place) {
+        is_no_collection(config, index, value)
+    } else {
+        !is_object_of(value, &SUBJECT_KEYS)
     }
 }
 
 /// Whether a value has not the form that is wanted at a place.
-fn is_wrong_after(place: &[PathPart], value: &Value) -> bool
-    ensures { result ≡ is_wrong_after (last_part place.now) (view value.now) }
+fn is_wrong_there(config: &Value, place: &[PathPart], value: &Value) -> bool
+    ensures { result
+        ≡ is_wrong_there (view config.now) place.now (last_part place.now) (view value.now) }
 {
     match place.last() {
         None => !is_object_of(value, &CONFIG_KEYS),
-        Some(PathPart::Item(_)) => !is_object_of(value, &SUBJECT_KEYS),
-        Some(PathPart::Member(key)) => {
-            if *key == "subjects" {
-                value.as_array().is_none()
-            } else if *key == "grid" {
-                grid_in(value).is_none()
-            } else if *key == "steward" {
-                value.as_bool().is_none()
-            } else {
-                !is_name_text(value)
-            }
-        }
+        Some(PathPart::Item(index)) => is_wrong_item(config, place, *index, value),
+        Some(PathPart::Member(key)) => is_wrong_member(config, *key, value),
     }
 }
 
@@ -67,11 +74,12 @@ fn is_needed(place: &[PathPart]) -> bool
 }
 
 /// Whether a value is missing, or not of the form that is wanted.
-fn is_wrong_form(place: &[PathPart], value: Option<&Value>) -> bool
-    ensures { result ≡ is_wrong_form place.now (option_map (λ v. view v.now) value.entry) }
+fn is_wrong_form(config: &Value, place: &[PathPart], value: Option<&Value>) -> bool
+    ensures { result ≡ is_wrong_form (view config.now) place.now
+        (option_map (λ v. view v.now) value.entry) }
 {
     match value {
-        Some(value) => is_wrong_after(place, value),
+        Some(value) => is_wrong_there(config, place, value),
         None => is_needed(place),
     }
 }
@@ -121,13 +129,18 @@ fn is_wrong_policy(fault: &TextFault, place: &[PathPart], value: &Value) -> bool
     }
 }
 
-/// Whether the value at a place is the one at fault.
-pub(crate) fn is_wrong(fault: &ConfigFault, place: &[PathPart], value: Option<&Value>) -> bool
-    ensures { result
-        ≡ is_wrong fault.now place.now (option_map (λ v. view v.now) value.entry) }
+/// Whether the value at a place of a configuration is the one at fault.
+pub(crate) fn is_wrong(
+    fault: &ConfigFault,
+    config: &Value,
+    place: &[PathPart],
+    value: Option<&Value>,
+) -> bool
+    ensures { result ≡ is_wrong fault.now (view config.now) place.now
+        (option_map (λ v. view v.now) value.entry) }
 {
     match (fault, value) {
-        (ConfigFault::Form, _) => is_wrong_form(place, value),
+        (ConfigFault::Form, _) => is_wrong_form(config, place, value),
         (ConfigFault::Subjects(fault), Some(value)) => is_wrong_list(*fault, place, value),
         (ConfigFault::Policies(fault), Some(value)) => is_wrong_policy(fault, place, value),
         _ => false,

@@ -41,14 +41,6 @@ length_after version office (change ∷ changes) rows can = go change (length_af
     go (Reshape id known shape) rest can = omega (arith, rest, length-with_shape id version shape rows)
     go (Delete id known) rest can = omega (arith, rest, length-without id rows can)
 
--- no more features are deleted than there are
-pub deletions_within : (version : ℕ) (office : List ℕ) (changes : List Change) (rows : List Feature) → CanApply changes rows → deletions changes ≤ length rows
-deletions_within version office [] rows can = omega arith
-deletions_within version office (Add id class shape ∷ changes) rows can = deletions_within version office changes rows can.2
-deletions_within version office (Reshape id known shape ∷ changes) rows can = deletions_within version office changes rows can.2
-deletions_within version office (Delete id known ∷ changes) rows can =
-    omega (arith, length-without id rows can.0, deletions_within version office changes (without id rows) (can_apply_rest version office (Delete id known) changes rows can.1 can.2))
-
 pub additions_few : (changes : List Change) → additions changes ≤ length changes
 additions_few [] = omega arith
 additions_few (Add id class shape ∷ changes) = omega (arith, additions_few changes)
@@ -82,9 +74,6 @@ module _ (limit version : ℕ) (office : List ℕ) (changes : List Change) (rows
 
   pub fit : len + added ≤ limit + deleted → length (after version office changes rows) ≤ limit
   fit few = omega (arith, few, len_is, added_is, deleted_is, length_after version office changes rows can)
-
-  pub few_added : len + added ≤ limit + deleted → added ≤ limit
-  few_added few = omega (arith, few, len_is, deleted_is, deletions_within version office changes rows can)
 
 pub not_full : (r : Result (Unit {0}) StoreFault) (x : NoMemory) → IsErrAnd r (λ fault. fault ≡ Memory x) → r ≡ Err Full → ⊥
 not_full (Ok u) x h same = absurd cc

@@ -47,9 +47,6 @@ module _ (blocks : List (ArrayVec Entry)) (i : ℕ) (block : ArrayVec Entry) (wi
       ∙ get_right (places_in block.items) (places_in (entries_of (drop (i + 1) blocks))) left (omega (arith, le, length_places))
       ∙ ap (λ n. slice_get (places_in (entries_of (drop (i + 1) blocks))) (left - n)) length_places
 
-  pub length_left : length (entries_of (drop i blocks)) ≡ length block.items + length (entries_of (drop (i + 1) blocks))
-  length_left = ap length entries_next ∙ length-append block.items (entries_of (drop (i + 1) blocks))
-
   pub rows_next : (features : List Feature) → rows_at (places_in (entries_of (drop i blocks))) features ≡ rows_at (places_in block.items) features ++ rows_at (places_in (entries_of (drop (i + 1) blocks))) features
   rows_next features = ap (λ places. rows_at places features) places_next ∙ map-append (feature_at features) (places_in block.items) (places_in (entries_of (drop (i + 1) blocks)))
 

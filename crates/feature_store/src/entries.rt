@@ -5,7 +5,7 @@ ghost use Rattle.feature_store.specs.Blocks.{AreFilled, AreFilledBut, HasGap, Ha
 ghost use Rattle.feature_store.specs.Places.{AreRising, IsAt, IsGapFor};
 ghost use Rattle.feature_store.specs.Tables.{IsRenumbered, rows_at};
 
-use crate::tables::FEATURE_LIMIT;
+use crate::tables::{FEATURE_LIMIT, LIST_LIMIT};
 use arrayvec::ArrayVec;
 use features::Feature;
 use memory::{GrowVec, NoMemory};
@@ -429,16 +429,23 @@ fn copy_block<A: Allocator>(rows: &mut Vec<Feature, A>, entries: &[Entry], featu
 }
 
 /// Appends copies of the features at the places of all entries.
-fn copy_blocks<A: Allocator>(rows: &mut Vec<Feature, A>, blocks: &[Block], features: &[Feature])
+fn copy_blocks<A: Allocator>(
+    rows: &mut Vec<Feature, A>,
+    blocks: &[Block],
+    features: &[Feature],
+) -> Result<(), NoMemory>
     requires in_range { All (λ place. place < length features.now)
         (places_in (entries_of blocks.now)) }
-    requires room { vec_len rows.old + length (entries_of blocks.now) ≤ vec_capacity rows.old }
-    ensures { rows.new.items ≡ rows.old.items
-        ++ rows_at (places_in (entries_of blocks.now)) features.now }
+    ensures { OnOk result
+        (rows.new.items ≡ rows.old.items
+        ++ rows_at (places_in (entries_of blocks.now)) features.now) }
 {
     for block in blocks {
-        copy_block(rows, block.as_slice(), features);
+        let entries = block.as_slice();
+        rows.make_room(entries.len())?;
+        copy_block(rows, entries, features);
     }
+    Ok(())
 }
 
 /// Entries by rising id, in blocks of at most 512. An insertion moves the greater ids of one block,
@@ -490,20 +497,24 @@ impl<A: Allocator> Entries<A> {
     }
 
     /// Appends copies of the features at the places, in the order of the ids.
-    pub(crate) fn copy_rows<B: Allocator>(&self, rows: &mut Vec<Feature, B>, features: &[Feature])
-        requires in_range { All (λ place. place < length features.now) (places_in self.now.items) }
-        requires room { vec_len rows.old + length self.now.items ≤ vec_capacity rows.old }
-        ensures { rows.new.items ≡ rows.old.items
-            ++ rows_at (places_in self.now.items) features.now }
+    pub(crate) fn copy_rows<B: Allocator>(
+        &self,
+        rows: &mut Vec<Feature, B>,
+        features: &[Feature],
+    ) -> Result<(), NoMemory>
+        requires { All (λ place. place < length features.now) (places_in self.now.items) }
+        ensures { OnOk result
+            (rows.new.items ≡ rows.old.items
+            ++ rows_at (places_in self.now.items) features.now) }
     {
-        copy_blocks(rows, &self.blocks, features);
+        copy_blocks(rows, &self.blocks, features)
     }
 
     /// Makes room for this many more entries; there are at most `count`. None needs no memory.
     pub(crate) fn make_room(&mut self, count: usize, additional: usize) -> Result<(), NoMemory>
         requires count { length self.old.items ≤ count }
         requires count_few { count ≤ FEATURE_LIMIT }
-        requires few { additional ≤ FEATURE_LIMIT }
+        requires few { additional ≤ LIST_LIMIT }
         ensures items { self.new.items ≡ self.old.items }
         ensures ok { OnOk result (additional ≤ self.new.room) }
         ensures certain { additional ≡ 0 → IsOk result }

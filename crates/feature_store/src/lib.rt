@@ -8,4 +8,4 @@ mod tables;
 
 pub use meters::Meter;
 pub use stores::{Store, StoreFault};
-pub use tables::FEATURE_LIMIT;
+pub use tables::{FEATURE_LIMIT, LIST_LIMIT};

@@ -10,12 +10,16 @@ ghost use Rattle.feature_store.specs.Ticks.{ticked_by};
 
 use crate::entries::Entries;
 use crate::meters::Meter;
-use crate::tables::{self, FEATURE_LIMIT, Table};
+use crate::tables::{self, FEATURE_LIMIT, LIST_LIMIT, Table};
 use features::{Change, Feature, Name};
 use memory::{NoMemory, vec_with_room};
 use std::alloc::Allocator;
 use std::fmt;
 use std::marker::Model;
+
+/// How many features a copy of all of them has room for from the beginning. Where there are more,
+/// it grows.
+const ROOM_AT_ONCE: usize = 100_000;
 
 /// Why a store rejects a list of changes, or cannot list its features.
 #[derive(Debug, Drop, PartialEq, Eq)]
@@ -94,7 +98,7 @@ impl<A: Allocator + Copy> Store<A> {
 }
 
 impl<A: Allocator> Store<A> {
-    /// How many features there are: at most 100,000.
+    /// How many features there are: at most `FEATURE_LIMIT`.
     pub fn len(&self) -> usize
         ensures value { result ≡ length self.now }
         ensures within { length self.now ≤ FEATURE_LIMIT }
@@ -141,10 +145,11 @@ impl<A: Allocator> Store<A> {
         ensures err { OnErr result (meter.new ≡ meter.old) }
         ensures memory { IfErr result (λ fault. fault ≡ StoreFault.Memory out_of_memory) }
     {
-        let mut rows = vec_with_room(alloc, self.table.features.len())?;
+        let room = self.table.features.len().min(ROOM_AT_ONCE);
+        let mut rows = vec_with_room(alloc, room)?;
         self.table
             .entries
-            .copy_rows(&mut rows, &self.table.features);
+            .copy_rows(&mut rows, &self.table.features)?;
         meter.tick(rows.len() as u64);
         Ok(rows)
     }
@@ -161,16 +166,17 @@ impl<A: Allocator> Store<A> {
         self.table.features.len() + added - deleted
     }
 
-    /// Makes all changes of a list, or none. `Full` exactly if there would be more than 100,000
-    /// features; otherwise `Memory` if room for the added ones is refused. On an error the store is
-    /// unchanged. A list that adds no feature allocates nothing.
+    /// Makes all changes of a list, or none. `Full` exactly if there would be more than
+    /// `FEATURE_LIMIT` features; otherwise `Memory` if room for the added ones is refused. On an
+    /// error the store is unchanged. A list that adds no feature allocates nothing.
     pub fn apply(
         &mut self,
         version: u64,
         office: Name,
         changes: &[Change],
     ) -> Result<(), StoreFault>
-        requires { CanApply changes.now self.old }
+        requires can { CanApply changes.now self.old }
+        requires few { length changes.now ≤ LIST_LIMIT }
         ensures ok { OnOk result (self.new ≡ after version office changes.now self.old) }
         ensures err { OnErr result (self.new ≡ self.old) }
         ensures full { (result ≡ Err StoreFault.Full)

@@ -12,7 +12,10 @@ use plane::Shape;
 use std::alloc::Allocator;
 
 /// The most features of a store.
-pub const FEATURE_LIMIT: usize = 100_000;
+pub const FEATURE_LIMIT: usize = 4_000_000;
+
+/// The most changes that a store makes at once.
+pub const LIST_LIMIT: usize = 4_096;
 
 /// Features, each at a place, and apart from them the place of each id. An insertion and a deletion
 /// move entries of ids, and no feature but one.
@@ -38,7 +41,7 @@ pub(crate) fn make_room<A: Allocator>(
     table: &mut Table<A>,
     additional: usize,
 ) -> Result<(), NoMemory>
-    requires few { additional ≤ FEATURE_LIMIT }
+    requires few { additional ≤ LIST_LIMIT }
     requires sound { IsSound table.old }
     requires numbers { vec_len table.old.features ≤ FEATURE_LIMIT }
     ensures rows { rows_of table.new ≡ rows_of table.old }

@@ -70,7 +70,7 @@ impl<L: HallName, R: Wait + Drop, A: Allocator + Copy> Hall<L, R, A> {
     /// views. `rt` is the hall's own handle, with which it publishes policies. `alloc` keeps
     /// features, records and receipts; `heap` keeps documents, the lines of a trail and what views
     /// read. H2 where more than `VIEW_LIMIT` views are asked for; H6, or the world's X12, where an
-    /// allocation is refused. A fault returns the document. The limits are the greatest.
+    /// allocation is refused. A fault returns the document. The limits are `Limits::USUAL`.
     pub fn open(
         rt: R,
         alloc: A,
@@ -87,12 +87,11 @@ impl<L: HallName, R: Wait + Drop, A: Allocator + Copy> Hall<L, R, A> {
         ensures ok { OnOk result (views ≤ VIEW_LIMIT) }
         ensures err { IfErr result (λ e. e.0 ≡ document) }
     {
-        let limits = Limits::GREATEST;
+        let limits = Limits::USUAL;
         Hall::open_within(rt, alloc, heap, unnamed, subjects, document, views, limits)
     }
 
-    /// The same within other limits, for tests of what happens at them. No limit is above that of
-    /// `Limits::GREATEST`.
+    /// The same within other limits. No limit is above that of `Limits::GREATEST`.
     pub fn open_within(
         rt: R,
         alloc: A,
@@ -144,7 +143,7 @@ impl<L: HallName, R: Wait + Drop, A: Allocator + Copy> Hall<L, R, A> {
         unnamed: Unnamed,
         subjects: Subjects,
         base: Base<A>,
-        rolled: u32,
+        rolled: u64,
         views: usize,
         limits: Limits,
     ) -> Result<Self, OpenFault>

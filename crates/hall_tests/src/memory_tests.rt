@@ -210,7 +210,7 @@ fn begun<'m>(
     rt: &impl Abort,
     memory: &'m Refusing<Global>,
     heap: Global,
-    rolled: u32,
+    rolled: u64,
 ) -> Chronicle<&'m Refusing<Global>>
     requires { rolled ≤ ROLLED_LIMIT }
 {

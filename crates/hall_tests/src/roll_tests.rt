@@ -62,14 +62,14 @@ fn wait_for_rounds(rt: &impl Abort, rounds: &AtomicU64, least: u64) {
 fn roll_on<L: HallName, H: Wait + Drop, R: Wait + Abort>(
     rt: &R,
     chief: &mut Seat<'_, L, H, Global>,
-    first: u32,
-) -> u32 {
+    first: u64,
+) -> u64 {
     match chief.roll(rt) {
         Ok(piece) => {
             let count = piece.trail().len();
             assert_eq!(rt; piece.trail().first(), first);
             assert_eq!(rt; piece.lines().len(), count as usize);
-            first.saturating_add(count)
+            first.saturating_add(u64::from(count))
         }
         Err(fault) => panic!(rt; "not rolled: {fault}"),
     }
@@ -93,7 +93,7 @@ fn roll_beside<'h, L: HallName, H: Wait + Drop, R: Wait + Abort>(
         first = next;
     }
     done.store(1, Ordering::SeqCst);
-    (chief, u64::from(first))
+    (chief, first)
 }
 
 /// Runs both seats concurrently. Returns the steward's with the number after the last rolled
@@ -136,8 +136,8 @@ fn rolls_beside_work_in<
     let (north, last) = worked;
     // A round leaves two records. This roll takes the records since the last roll.
     let records = last.saturating_mul(2);
-    let next = roll_on(rt, &mut chief, u32::try_from(first).unwrap_or(0));
-    assert_eq!(rt; u64::from(next), records.saturating_add(1));
+    let next = roll_on(rt, &mut chief, first);
+    assert_eq!(rt; next, records.saturating_add(1));
     close_two(rt, heap, &hall, chief, north, records);
 }
 

@@ -4,9 +4,11 @@
 
 mod stores;
 mod transfers;
+mod web_plans;
 
 use crate::stores::{Alarm, StoreToOpen, look_at_store, run_stored};
 use crate::transfers::{run_export, run_import};
+use crate::web_plans::{WebFault, WebPlan};
 use byte_streams::{WriteFailed, flush, let_go, write_shown};
 use client::{End, TalkFault, talk};
 use command_line::{Waits, WordsFault, host_words};
@@ -15,7 +17,7 @@ use features::Subjects;
 use grid::Grid;
 use log::{Log, warn};
 use memory::{NoMemory, another, buffered, shared, text};
-use policy_text::print_document;
+use policy_text::{Document, print_document};
 use program::{
     HostFolder, Next, ProgramFault, TransferWords, WantedServer, WantedTransfer, run_program, tell,
 };
@@ -26,13 +28,14 @@ use server::{
 use std::alloc::Global;
 use std::fs::{File, Files};
 use std::io::{IsTerminal, Print, Read, Stderr, Stdin, Write};
-use std::net::Net;
+use std::net::{Net, TcpListener, TcpStream};
 use std::os::unix::net::UnixStream;
 use std::process::ExitCode;
 use std::sync::{Arc, Wait};
 use std::thread::Threads;
 use std::time::Clock;
 use std::{fmt, io, thread};
+use world::FeatureLimit;
 
 /// The exit status if the command line is wrong.
 const TURNED_DOWN: u8 = 2;
@@ -96,6 +99,8 @@ struct Plan {
     connections: Connections,
     idle: Option<u64>,
     takeover: bool,
+    /// What is answered by HTTP, if anything is.
+    web: Option<WebPlan>,
     /// How the server is told to accept no more connections.
     stop: Arc<Stop>,
     /// For the thread that waits for the end of standard input, if the command line asks for one.
@@ -121,24 +126,22 @@ fn same_subjects(subjects: &Subjects) -> Subjects {
 /// What a server without a store serves, or one with a store in this folder.
 fn planned_work(
     rt: &HostRuntime,
-    config: Config<Global>,
+    subjects: Subjects,
+    document: Document<Global>,
     workers: usize,
+    features: FeatureLimit,
     store: Option<&str>,
     waits: Waits,
     alarm: Alarm,
 ) -> Result<Work, NoMemory> {
     let Some(folder) = store else {
         return Ok(Work::Passing(Serving {
-            subjects: config.subjects,
-            begins: Begins::Document(config.document),
+            subjects,
+            begins: Begins::Document(document),
             workers,
+            features,
         }));
     };
-    let Config {
-        subjects,
-        document,
-        ..
-    } = config;
     let store = StoreToOpen {
         rt: *rt,
         folder: text(rt.alloc(), folder)?,
@@ -149,6 +152,7 @@ fn planned_work(
     let keeping = Keeping {
         subjects,
         workers,
+        features,
         rests: if waits == Waits::Changes {
             Rests::Changes
         } else {
@@ -167,14 +171,27 @@ fn connections(wanted: Option<u16>) -> Connections {
 }
 
 /// The server that the command line asks for.
-fn planned(rt: &HostRuntime, server: WantedServer<'_>) -> Result<Plan, NoMemory> {
+fn planned(rt: &HostRuntime, server: WantedServer<'_>) -> Result<Plan, WebFault> {
     let heap = rt.alloc();
     let WantedServer {
         options,
         config,
         store,
         waits,
+        http,
+        http_workers,
+        features,
     } = server;
+    let Config {
+        subjects,
+        document,
+        grid,
+        web,
+    } = config;
+    let web = match http {
+        Some(word) => Some(WebPlan::new(rt, word, http_workers, grid, web)?),
+        None => None,
+    };
     let stop = shared(heap, Stop::new())?;
     let stopping = if options.until_stdin_ends {
         Some(alarm(heap, &stop, options.socket)?)
@@ -184,11 +201,14 @@ fn planned(rt: &HostRuntime, server: WantedServer<'_>) -> Result<Plan, NoMemory>
     let own_alarm = alarm(heap, &stop, options.socket)?;
     let workers = usize::from(options.workers);
     Ok(Plan {
-        work: planned_work(rt, config, workers, store, waits, own_alarm)?,
+        work: planned_work(
+            rt, subjects, document, workers, features, store, waits, own_alarm,
+        )?,
         path: text(heap, options.socket)?,
         connections: connections(options.connections),
         idle: options.idle_seconds.map(u64::from),
         takeover: options.takeover,
+        web,
         stop,
         stopping,
     })
@@ -199,7 +219,14 @@ fn planned(rt: &HostRuntime, server: WantedServer<'_>) -> Result<Plan, NoMemory>
 fn serve<H, R>(rt: &R, own: H, heap: Global, plan: Plan, errors: &mut Stderr) -> ExitCode
 where
     H: Wait + Copy + Drop + Send,
-    R: Threads + Wait + Clock + Log + Files<File = File> + Net + Print + Sync,
+    R: Threads
+        + Wait
+        + Clock
+        + Log
+        + Files<File = File>
+        + Net<Stream = TcpStream, Listener = TcpListener>
+        + Print
+        + Sync,
 {
     let Plan {
         work,
@@ -207,14 +234,22 @@ where
         connections,
         idle,
         takeover,
+        web: plan,
         stop,
         stopping: _stopping,
     } = plan;
+    let site = plan.as_ref().map(|plan| plan.site());
+    let web = match (&plan, &site) {
+        (Some(plan), Some(site)) => Some(plan.web(site)),
+        _ => None,
+    };
+    let web = web.as_ref();
     let socket_options = SocketOptions {
         connections,
         idle,
         takeover,
         stop: Some(&stop),
+        web,
     };
     let served = match work {
         Work::Passing(serving) => serve_socket(
@@ -238,6 +273,10 @@ where
     match served {
         Ok(closed) => conclude(rt, heap, closed, errors),
         Err(ServerFault::Bind) => fail(&ProgramFault::CannotBind(path.as_str()), errors),
+        Err(ServerFault::BindWeb) => {
+            let place = plan.as_ref().map_or("", |plan| plan.shown());
+            fail(&ProgramFault::CannotBind(place), errors)
+        }
         Err(ServerFault::Write(failed)) => fail(&ProgramFault::CannotWrite(failed), errors),
         // The store has told what is wrong with it.
         Err(ServerFault::Store(_)) => ExitCode::from(1),
@@ -364,7 +403,14 @@ fn main(rt: HostRuntime) -> ExitCode {
                 }
                 serve(&rt, rt, rt.alloc(), plan, &mut errors)
             }
-            Err(no_memory) => fail(&ProgramFault::Memory(no_memory), &mut errors),
+            Err(WebFault::Memory(no_memory)) => {
+                fail(&ProgramFault::Memory(no_memory), &mut errors)
+            }
+            Err(fault) => {
+                let text = fault.text();
+                let _ = write!(errors, "error: {text}\n");
+                ExitCode::from(1)
+            }
         },
         Next::Connect(path) => connect(&rt, path, &mut errors),
         Next::Keep(wanted) => run_stored(&rt, wanted, &mut errors),

@@ -28,7 +28,7 @@ use std::sync::{Arc, Wait};
 use std::time::Clock;
 use std::{fmt, io};
 use volumes::State;
-use world::{Base, Fault, Limits, ROLLED_LIMIT, Starts, World};
+use world::{Base, Fault, FeatureLimit, ROLLED_LIMIT, Starts, World};
 
 /// The line on standard error about the fault of a store.
 #[derive(Drop)]
@@ -56,7 +56,7 @@ struct FoundLine<'a> {
     life: u64,
     features: usize,
     edition: u64,
-    next: u32,
+    next: u64,
 }
 
 impl fmt::Display for FoundLine<'_> {
@@ -104,8 +104,14 @@ fn open_store(
     Ok((shelf, found))
 }
 
-/// The world that begins at the state of a store. `Err` holds what is wrong with the state.
-fn world_of(heap: Global, subjects: Subjects, found: Found) -> Result<World<Global>, &'static str>
+/// The world that begins at the state of a store, where there may be so many features after an
+/// addition. `Err` holds what is wrong with the state.
+fn world_of(
+    heap: Global,
+    subjects: Subjects,
+    features: FeatureLimit,
+    found: Found,
+) -> Result<World<Global>, &'static str>
     requires { IsSortedById found.state.features.items }
 {
     let Found {
@@ -113,6 +119,7 @@ fn world_of(heap: Global, subjects: Subjects, found: Found) -> Result<World<Glob
         next,
         state,
     } = found;
+    let limits = features.limits();
     let State {
         features,
         version,
@@ -137,7 +144,7 @@ fn world_of(heap: Global, subjects: Subjects, found: Found) -> Result<World<Glob
         rolled,
         ..Starts::FIRST
     };
-    match World::open_from(heap, subjects, base, starts, Limits::GREATEST) {
+    match World::open_from(heap, subjects, base, starts, limits) {
         Ok(world) => Ok(world),
         Err(fault) => Err(fault.code()),
     }
@@ -154,6 +161,7 @@ pub(crate) fn run_stored(
         config,
         script,
         folder,
+        features,
     } = wanted;
     let mut file = match HostFolder::of(rt).open_file(script) {
         Ok(file) => file,
@@ -177,7 +185,7 @@ pub(crate) fn run_stored(
         Ok(opened) => opened,
         Err(fault) => return fail_store(&fault, errors),
     };
-    match world_of(rt.alloc(), subjects, found) {
+    match world_of(rt.alloc(), subjects, features, found) {
         Ok(world) => run_over(rt, shelf, world, &mut file, errors),
         Err(code) => fail(&ProgramFault::Server(code), errors),
     }

@@ -18,6 +18,7 @@ use program::ProgramFault;
 use std::alloc::Global;
 use std::fs::File;
 use std::io::{IsTerminal, Read, Stderr, Write};
+use std::os::unix::fs::FileExt;
 use std::process::ExitCode;
 use std::time::Duration;
 use std::{fmt, io, thread};
@@ -157,8 +158,8 @@ impl Pause for Rest<'_> {
 #[derive(Drop)]
 struct FileBooks<'a> {
     rt: &'a HostRuntime,
-    /// The path of the number of settled rows; `None` where it is not kept.
-    done: Option<&'a str>,
+    /// The file of the number of settled rows; `None` where it is not kept.
+    done: Option<File>,
     refused: File,
     errors: Stderr,
     /// Whether the progress is shown.
@@ -197,17 +198,26 @@ impl Books for FileBooks<'_> {
 
     fn settle(&mut self, rows: u64, totals: &Totals) -> Result<(), BooksFault> {
         self.show(totals);
-        let Some(path) = self.done else {
+        let Some(file) = &self.done else {
             return Ok(());
         };
-        let Ok(mut file) = File::create(self.rt, path) else {
-            return Err(BooksFault);
-        };
-        match write_whole(progress_text(rows).as_slice(), &mut file) {
+        match file.write_all_at(progress_text(rows).as_slice(), 0) {
             Ok(()) => Ok(()),
             Err(_) => Err(BooksFault),
         }
     }
+}
+
+/// The file of the number of settled rows, of which so many are settled. It is written in place, as
+/// the number only grows: a file that is emptied for each list would be flushed to the disk for each.
+fn done_file(rt: &HostRuntime, path: &str, done: u64) -> Result<File, BooksFault> {
+    let Ok(file) = File::options().write(true).create(true).open(rt, path) else {
+        return Err(BooksFault);
+    };
+    if done == 0 && file.set_len(0).is_err() {
+        return Err(BooksFault);
+    }
+    Ok(file)
 }
 
 /// How many rows of a file are settled, by its `.done` file; 0 if there is none.
@@ -334,13 +344,17 @@ fn imported<S: Sink>(
         let path = paths.refused.as_str();
         return Err(tell_line(format_args!("landmap: cannot keep {path}\n"), errors));
     };
+    let done = if keeps {
+        match done_file(rt, paths.done.as_str(), plan.done) {
+            Ok(file) => Some(file),
+            Err(_) => return Err(tell_import(&ImportFault::Books, plan.done, paths, errors)),
+        }
+    } else {
+        None
+    };
     let mut books = FileBooks {
         rt,
-        done: if keeps {
-            Some(paths.done.as_str())
-        } else {
-            None
-        },
+        done,
         refused,
         errors: rt.stderr(),
         shows: keeps && rt.stderr().is_terminal(),

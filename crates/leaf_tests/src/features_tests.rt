@@ -3,7 +3,7 @@
 ghost use Rattle.std.specs.Prelude.{◌≡◌};
 ghost use Rattle.features.specs.Changes.{change_id};
 
-use feature_store::{FEATURE_LIMIT, Meter, Store, StoreFault};
+use feature_store::{Meter, Store, StoreFault};
 use features::{Change, Feature, Name, Subject, Subjects, SubjectsFault};
 use plane::{Point, Shape};
 use refusing::Refusing;
@@ -449,25 +449,38 @@ fn without_memory(rt: HostRuntime) -> Result<(), Fail> {
     Ok(())
 }
 
-/// A full store rejects one more feature, and accepts one after a deletion.
-fn check_full<A: Allocator>(rt: &impl Abort, store: &mut Store<A>) {
-    assert_eq!(rt; store.len(), FEATURE_LIMIT);
-    assert_eq!(rt;
-        make(rt, store, 2, addition(rt, u64::MAX)),
-        Err(StoreFault::Full)
-    );
-    assert_eq!(rt; store.len(), FEATURE_LIMIT);
+/// How many features a store is filled with. A copy of more than these has to grow.
+const MANY: usize = 100_000;
+
+/// A store takes one more feature, and one in another's place. A copy has them all.
+fn check_many(rt: &impl Abort, heap: Global, store: &mut Store<Global>) {
+    assert_eq!(rt; store.len(), MANY);
+    assert!(rt; make(rt, store, 2, addition(rt, u64::MAX)).is_ok());
     assert!(rt; make(rt, store, 3, deletion(7)).is_ok());
-    assert!(rt; make(rt, store, 4, addition(rt, u64::MAX)).is_ok());
-    assert_eq!(rt; store.len(), FEATURE_LIMIT);
+    assert!(rt; make(rt, store, 4, addition(rt, u64::MAX - 1)).is_ok());
+    assert_eq!(rt; store.len(), MANY + 1);
+    let mut meter = Meter::new();
+    let copied = store.dump(heap, &mut meter);
+    assert!(rt; copied.is_ok());
+    let rows = copied.unwrap();
+    assert_eq!(rt; rows.len(), MANY + 1);
+    for (place, row) in rows.iter().enumerate() {
+        let id = match MANY.saturating_sub(place) {
+            0 => u64::MAX,
+            1 => u64::MAX - 1,
+            _ if place < 7 => place as u64,
+            _ => (place as u64).saturating_add(1),
+        };
+        assert!(rt; row.id == id, "{place}");
+    }
 }
 
 #[test]
-fn as_many_as_fit(rt: HostRuntime) -> Result<(), Fail> {
+fn a_hundred_thousand(rt: HostRuntime) -> Result<(), Fail> {
     let mut store = Store::new(rt.alloc());
-    for id in 0..FEATURE_LIMIT as u64 {
+    for id in 0..MANY as u64 {
         assert!(rt; make(&rt, &mut store, 1, addition(&rt, id)).is_ok());
     }
-    check_full(&rt, &mut store);
+    check_many(&rt, rt.alloc(), &mut store);
     Ok(())
 }

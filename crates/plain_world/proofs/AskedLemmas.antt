@@ -23,7 +23,7 @@ use Rattle.plain_world.specs.Admitting.{LAST, search_with, subject_at, placed, o
 use Rattle.plain_world.specs.Events.{Event, TakeSeat, OpenSearch, VisitNext, Finish, DropSearch, Begin, Stage, AdvanceWalk, Commit, Abort, Govern, Tend, Roll, Reply, Number, Done, Visited, Advanced, Tended, Ended, Failed, is_memory, Happens, Sees, Walks, Visits, Advances, Applies, CommitsAs, Tends, recorded, with_ready, without_transaction}
 use Rattle.plain_world.specs.Laws.{IsAsked, IsAskedSearch, IsAskedTransaction}
 use Rattle.plain_world.specs.Staging.{TransactionData, transaction_with, staged_in, with_step, staged, one_placed, ended, next_placement}
-use Rattle.plain_world.specs.States.{WorldData}
+use Rattle.plain_world.specs.States.{WorldData, most_features}
 use Rattle.plain_world.proofs.AdmittedLemmas.{by_if, by_unless, own_open}
 use Rattle.plain_world.proofs.RunLemmas.{and_then_ok}
 
@@ -252,7 +252,7 @@ asked_advances event number t old new reply d = go (next_placement t) d
 
 asked_applies : (event : Event) (seat number : ℕ) (subject : Subject) (changes : List Change) (old new : WorldData) (reply : Reply) → Applies seat number subject changes old new reply → IsAsked event old new reply
 asked_applies event seat number subject changes old new reply d =
-    go (old.state.version == LAST) (nat_lt old.limits.features (length (after (old.state.version + 1) subject.office changes old.state.features))) d
+    go (old.state.version == LAST) (nat_lt (most_features old) (length (after (old.state.version + 1) subject.office changes old.state.features))) d
   where
     go : (last full : Bool) → MatchBool last ((new ≡ old) × (reply ≡ Failed faults.Spent)) (MatchBool full ((new ≡ old) × (reply ≡ Failed faults.StoreFull))
         ((reply ≡ Ended (outcomes.Applied (old.state.version + 1))) × (new ≡ without_transaction number (recorded seat (applied subject (old.state.version + 1) changes) old)))) → IsAsked event old new reply

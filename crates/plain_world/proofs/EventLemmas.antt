@@ -14,7 +14,7 @@ use Rattle.plain_world.specs.declared.outcomes.Outcome.TheVariants as outcomes
 use Rattle.plain_world.specs.Admitting.{LAST}
 use Rattle.plain_world.specs.Events.{Reply, Ended, Failed, reply_of, If, UnlessMemory, is_memory, Applies, Commits, recorded, without_transaction}
 use Rattle.plain_world.specs.Staging.{staged_in}
-use Rattle.plain_world.specs.States.{WorldData}
+use Rattle.plain_world.specs.States.{WorldData, most_features}
 
 pub admitted : {T : Type 0} (may : Result T Fault) (x : T) (old new : WorldData) (reply : Reply) (Does : T → Type 0) → may ≡ Ok x → Does x → If may old new reply Does
 admitted may x old new reply Does e h = subst (λ (r : Result _ Fault). If r old new reply Does) (sym e) h
@@ -26,11 +26,11 @@ handed_on gives (Ok x) fault old new Does h same = absurd h
 handed_on gives (Err f) fault old new Does h same = subst (λ (g : Fault). UnlessMemory old new (Failed g) Does) (sym h) same
 
 -- an accepted list that would leave too many features
-pub too_many : (seat number : ℕ) (subject : Subject) (changes : List Change) (old : WorldData) (count : ℕ) → old.state.version ≢ LAST → old.limits.features < count → count ≡ length (after (old.state.version + 1) subject.office changes old.state.features)
+pub too_many : (seat number : ℕ) (subject : Subject) (changes : List Change) (old : WorldData) (count : ℕ) → old.state.version ≢ LAST → most_features old < count → count ≡ length (after (old.state.version + 1) subject.office changes old.state.features)
     → Applies seat number subject changes old old (Failed faults.StoreFull)
 too_many seat number subject changes old count left more counted =
     let not_last : (old.state.version == LAST) ≡ false = grind (arith, nat_tests, left) in
-    let full : nat_lt old.limits.features (length (after (old.state.version + 1) subject.office changes old.state.features)) ≡ true = rw (← counted) (grind (arith, nat_tests, more)) in
+    let full : nat_lt (most_features old) (length (after (old.state.version + 1) subject.office changes old.state.features)) ≡ true = rw (← counted) (grind (arith, nat_tests, more)) in
     go _ _ not_last full
   where
     go : (last over : Bool) → last ≡ false → over ≡ true

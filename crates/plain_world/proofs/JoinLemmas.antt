@@ -22,7 +22,7 @@ use Rattle.plain_world.specs.Admitting.{LAST, may_sit, may_open, may_go_on, may_
 use Rattle.plain_world.specs.Events.{Event, TakeSeat, OpenSearch, VisitNext, Finish, DropSearch, Begin, Stage, AdvanceWalk, Commit, Abort, Govern, Tend, Roll, Reply, Visited, Advanced, Tended, Ended, TakenOut, Failed, If, UnlessMemory, is_memory, Happens, Run, Sees, Walks, Visits, Advances, Applies, CommitsAs, Tends, recorded, without_transaction}
 use Rattle.plain_world.specs.Laws.{records_out}
 use Rattle.plain_world.specs.Staging.{TransactionData, next_placement, staged_in}
-use Rattle.plain_world.specs.States.{WorldData, IsSoundWorld}
+use Rattle.plain_world.specs.States.{WorldData, IsSoundWorld, most_features}
 use Rattle.plain_world.proofs.AdmittedLemmas.{by_if, by_unless}
 use Rattle.plain_world.proofs.RunLemmas.{sound_event}
 
@@ -94,7 +94,7 @@ moves_advances number t old new reply d = go (next_placement t) d
 
 moves_applies : (seat number : ℕ) (subject : Subject) (changes : List Change) (old new : WorldData) (reply : Reply) → Applies seat number subject changes old new reply → Moves old new reply
 moves_applies seat number subject changes old new reply d =
-    go (old.state.version == LAST) (nat_lt old.limits.features (length (after (old.state.version + 1) subject.office changes old.state.features))) d
+    go (old.state.version == LAST) (nat_lt (most_features old) (length (after (old.state.version + 1) subject.office changes old.state.features))) d
   where
     go : (last full : Bool) → MatchBool last ((new ≡ old) × (reply ≡ Failed faults.Spent)) (MatchBool full ((new ≡ old) × (reply ≡ Failed faults.StoreFull))
         ((reply ≡ Ended (outcomes.Applied (old.state.version + 1))) × (new ≡ without_transaction number (recorded seat (applied subject (old.state.version + 1) changes) old)))) → Moves old new reply

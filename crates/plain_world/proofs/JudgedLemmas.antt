@@ -17,7 +17,7 @@ use Rattle.plain_world.specs.Admitting.{LAST, may_commit}
 use Rattle.plain_world.specs.Events.{Commit, Reply, Ended, Failed, Happens, Applies, CommitsAs, recorded, without_transaction}
 use Rattle.plain_world.specs.Laws.{outcome_of}
 use Rattle.plain_world.specs.Staging.{TransactionData, transaction_with, staged_in}
-use Rattle.plain_world.specs.States.{WorldData}
+use Rattle.plain_world.specs.States.{WorldData, most_features}
 use Rattle.plain_world.proofs.AdmittedLemmas.{by_if, by_unless, committer, staged_of}
 
 -- refused, or ended as the judgement says
@@ -26,7 +26,7 @@ EndsAsJudged old judgement reply = ((fault : Fault) × (reply ≡ Failed fault))
 
 applies_as : (seat number : ℕ) (subject : Subject) (changes : List Change) (old new : WorldData) (reply : Reply) → Applies seat number subject changes old new reply → EndsAsJudged old judgements.Accepted reply
 applies_as seat number subject changes old new reply d =
-    go (old.state.version == LAST) (nat_lt old.limits.features (length (after (old.state.version + 1) subject.office changes old.state.features))) d
+    go (old.state.version == LAST) (nat_lt (most_features old) (length (after (old.state.version + 1) subject.office changes old.state.features))) d
   where
     go : (last full : Bool) → MatchBool last ((new ≡ old) × (reply ≡ Failed faults.Spent)) (MatchBool full ((new ≡ old) × (reply ≡ Failed faults.StoreFull))
         ((reply ≡ Ended (outcomes.Applied (old.state.version + 1))) × (new ≡ without_transaction number (recorded seat (applied subject (old.state.version + 1) changes) old)))) → EndsAsJudged old judgements.Accepted reply

@@ -33,7 +33,7 @@ use Rattle.plain_world.specs.Events.{Event, TakeSeat, OpenSearch, VisitNext, Fin
 use Rattle.plain_world.specs.Laws.{AreApart, IsOrdered}
 use Rattle.plain_world.specs.Staging.{TransactionData, transaction_with, staged_in, with_step, staged, one_placed, ended, names, next_placement}
 use Rattle.judging.specs.States.{PlainState}
-use Rattle.plain_world.specs.States.{WorldData, IsSoundWorld, opened, opened_from}
+use Rattle.plain_world.specs.States.{WorldData, IsSoundWorld, opened, opened_from, most_features}
 use Rattle.plain_world.proofs.AnswerLemmas.{answer_exact}
 use Rattle.plain_world.proofs.AdmittedLemmas.{by_if, by_unless, own_open}
 use Rattle.plain_world.proofs.RunLemmas.{and_then_ok}
@@ -159,7 +159,7 @@ ordered_advances number t old new reply d h = go (next_placement t) d
 ordered_applies : (seat number : ℕ) (subject : Subject) (old new : WorldData) (reply : Reply) → Judged old.state subject (staged_in number old.transactions) judgements.Accepted
     → Applies seat number subject (staged_in number old.transactions) old new reply → IsOrdered old → IsOrdered new
 ordered_applies seat number subject old new reply judged d h =
-    go (old.state.version == LAST) (nat_lt old.limits.features (length (after (old.state.version + 1) subject.office (staged_in number old.transactions) old.state.features))) d
+    go (old.state.version == LAST) (nat_lt (most_features old) (length (after (old.state.version + 1) subject.office (staged_in number old.transactions) old.state.features))) d
   where
     go : (last full : Bool) → MatchBool last ((new ≡ old) × (reply ≡ Failed faults.Spent)) (MatchBool full ((new ≡ old) × (reply ≡ Failed faults.StoreFull))
         ((reply ≡ Ended (outcomes.Applied (old.state.version + 1))) × (new ≡ without_transaction number (recorded seat (applied subject (old.state.version + 1) (staged_in number old.transactions)) old))))

@@ -21,7 +21,7 @@ use Rattle.plain_world.specs.Answers.{denial_of}
 use Rattle.plain_world.specs.Events.{Commit, Ended, Failed, Happens, CommitsAs, Applies, without_transaction, recorded}
 use Rattle.plain_world.specs.Laws.{IsJudgement, EndsAs, GoesWith, asked}
 use Rattle.plain_world.specs.Staging.{TransactionData, staged_in}
-use Rattle.plain_world.specs.States.{WorldData}
+use Rattle.plain_world.specs.States.{WorldData, most_features}
 use Rattle.plain_world.proofs.AdmittedLemmas.{admitted, committer, staged_of}
 
 outcome_same : (a b : Outcome) → Ended a ≡ Ended b → a ≡ b
@@ -46,7 +46,7 @@ goes_with decider (Stale current) question founded = refl
 ends_applied : (seat number : ℕ) (subject : Subject) (t : TransactionData) (old new : WorldData) (outcome : Outcome)
     → Judged old.state subject t.changes judgements.Accepted → Applies seat number subject t.changes old new (Ended outcome) → IsJudgement subject t old.state new.state outcome
 ends_applied seat number subject t old new outcome judged d =
-    go (old.state.version == LAST) (nat_lt old.limits.features (length (after (old.state.version + 1) subject.office t.changes old.state.features))) d
+    go (old.state.version == LAST) (nat_lt (most_features old) (length (after (old.state.version + 1) subject.office t.changes old.state.features))) d
   where
     go : (last full : Bool) → MatchBool last ((new ≡ old) × (Ended outcome ≡ Failed faults.Spent)) (MatchBool full ((new ≡ old) × (Ended outcome ≡ Failed faults.StoreFull))
         ((Ended outcome ≡ Ended (outcomes.Applied (old.state.version + 1))) × (new ≡ without_transaction number (recorded seat (applied subject (old.state.version + 1) t.changes) old)))) → IsJudgement subject t old.state new.state outcome

@@ -20,7 +20,7 @@ use Rattle.plain_world.specs.Admitting.{LAST, may_sit, may_open, may_go_on, may_
 use Rattle.plain_world.specs.Events.{Event, TakeSeat, OpenSearch, VisitNext, Finish, DropSearch, Begin, Stage, AdvanceWalk, Commit, Abort, Govern, Tend, Roll, Reply, Visited, Advanced, Tended, Ended, Failed, is_memory, Happens, Sees, Walks, Visits, Advances, Finishes, Applies, CommitsAs, Governs, Rolls, Tends, recorded, without_transaction}
 use Rattle.plain_world.specs.Laws.{StandsAs, HasOneMore, AddsAlone}
 use Rattle.plain_world.specs.Staging.{TransactionData, next_placement, staged_in}
-use Rattle.plain_world.specs.States.{WorldData}
+use Rattle.plain_world.specs.States.{WorldData, most_features}
 use Rattle.plain_world.proofs.AdmittedLemmas.{by_if, by_unless, committer}
 
 stands_same : (old new : WorldData) → new ≡ old → StandsAs old new
@@ -78,7 +78,7 @@ adds_finishes seat number who old new reply d =
 adds_applies : (seat number : ℕ) (subject : Subject) (old new : WorldData) (reply : Reply) → IsSeated seat old.seats subject
     → Applies seat number subject (staged_in number old.transactions) old new reply → AddsAlone (Commit seat number) old new reply
 adds_applies seat number subject old new reply seated d =
-    go (old.state.version == LAST) (nat_lt old.limits.features (length (after (old.state.version + 1) subject.office (staged_in number old.transactions) old.state.features))) d
+    go (old.state.version == LAST) (nat_lt (most_features old) (length (after (old.state.version + 1) subject.office (staged_in number old.transactions) old.state.features))) d
   where
     go : (last full : Bool) → MatchBool last ((new ≡ old) × (reply ≡ Failed faults.Spent)) (MatchBool full ((new ≡ old) × (reply ≡ Failed faults.StoreFull))
         ((reply ≡ Ended (outcomes.Applied (old.state.version + 1))) × (new ≡ without_transaction number (recorded seat (applied subject (old.state.version + 1) (staged_in number old.transactions)) old))))

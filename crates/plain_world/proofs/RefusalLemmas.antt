@@ -21,7 +21,7 @@ use Rattle.plain_world.specs.Admitting.{LAST, and_then, given, subject_at, searc
 use Rattle.plain_world.specs.Events.{Event, TakeSeat, OpenSearch, VisitNext, Finish, DropSearch, Begin, Stage, AdvanceWalk, Commit, Abort, Govern, Tend, Roll, Reply, Visited, Advanced, Ended, Failed, If, UnlessMemory, is_want, Happens, Sees, Walks, Visits, Advances, Applies, CommitsAs, Tends, recorded, without_search, without_transaction}
 use Rattle.plain_world.specs.Laws.{Leaves}
 use Rattle.plain_world.specs.Staging.{TransactionData, transaction_with, next_placement, staged_in}
-use Rattle.plain_world.specs.States.{WorldData}
+use Rattle.plain_world.specs.States.{WorldData, most_features}
 use Rattle.plain_world.proofs.AdmittedLemmas.{seat_same}
 use Rattle.plain_world.proofs.RunLemmas.{and_then_ok, given_ok}
 
@@ -157,7 +157,7 @@ tends_same old new _ d = absurd d
 
 applies_same : (seat number : ℕ) (subject : Subject) (changes : List Change) (old new : WorldData) (fault : Fault) → Applies seat number subject changes old new (Failed fault) → new ≡ old
 applies_same seat number subject changes old new fault d =
-    go (old.state.version == LAST) (nat_lt old.limits.features (length (after (old.state.version + 1) subject.office changes old.state.features))) d
+    go (old.state.version == LAST) (nat_lt (most_features old) (length (after (old.state.version + 1) subject.office changes old.state.features))) d
   where
     go : (last full : Bool) → MatchBool last ((new ≡ old) × (Failed fault ≡ Failed faults.Spent)) (MatchBool full ((new ≡ old) × (Failed fault ≡ Failed faults.StoreFull))
         ((Failed fault ≡ Ended (outcomes.Applied (old.state.version + 1))) × (new ≡ without_transaction number (recorded seat (applied subject (old.state.version + 1) changes) old)))) → new ≡ old

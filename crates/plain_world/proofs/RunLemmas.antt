@@ -24,7 +24,7 @@ use Rattle.tree_answers.specs.declared.answers.Visit.TheVariants as visits
 use Rattle.plain_world.specs.Admitting.{LAST, and_then, given, placed, subject_at, stewarded, may_sit, may_open, may_go_on, own_search, has_answered_ready, may_record, may_finish, may_begin, own_transaction, all_placed, may_step, may_stage, may_commit, may_govern, may_roll}
 use Rattle.plain_world.specs.Events.{Event, TakeSeat, OpenSearch, VisitNext, Finish, DropSearch, Begin, Stage, AdvanceWalk, Commit, Abort, Govern, Tend, Roll, Reply, Visited, Advanced, Tended, Ended, Failed, If, is_memory, Happens, Run, Sees, Walks, Visits, Advances, Finishes, Applies, CommitsAs, Governs, Rolls, Tends, recorded, without_transaction}
 use Rattle.plain_world.specs.Staging.{TransactionData, next_placement, staged_in}
-use Rattle.plain_world.specs.States.{WorldData, IsSoundWorld}
+use Rattle.plain_world.specs.States.{WorldData, IsSoundWorld, most_features}
 use Rattle.plain_world.proofs.SoundLemmas.{sound_seated, sound_added}
 
 pub sound_same : (old new : WorldData) → new ≡ old → IsSoundWorld old → IsSoundWorld new
@@ -132,7 +132,7 @@ sound_finishes seat who old new reply seated d h =
 sound_applies : (seat number : ℕ) (subject : Subject) (changes : List Change) (old new : WorldData) (reply : Reply) → IsSeated seat old.seats subject
     → Judged old.state subject changes judgements.Accepted → Applies seat number subject changes old new reply → IsSoundWorld old → IsSoundWorld new
 sound_applies seat number subject changes old new reply seated judged d h =
-    go (old.state.version == LAST) (nat_lt old.limits.features (length (after (old.state.version + 1) subject.office changes old.state.features))) d
+    go (old.state.version == LAST) (nat_lt (most_features old) (length (after (old.state.version + 1) subject.office changes old.state.features))) d
   where
     go : (last full : Bool) → MatchBool last ((new ≡ old) × (reply ≡ Failed faults.Spent)) (MatchBool full ((new ≡ old) × (reply ≡ Failed faults.StoreFull)) ((reply ≡ Ended (outcomes.Applied (old.state.version + 1))) × (new ≡ without_transaction number (recorded seat (applied subject (old.state.version + 1) changes) old)))) → IsSoundWorld new
     go true full d = sound_same old new d.0 h

@@ -19,7 +19,7 @@ use Rattle.plain_world.specs.Admitting.{LAST, may_sit, may_open, may_go_on, may_
 use Rattle.plain_world.specs.Events.{Event, TakeSeat, OpenSearch, VisitNext, Finish, DropSearch, Begin, Stage, AdvanceWalk, Commit, Abort, Govern, Tend, Roll, Reply, Visited, Advanced, Tended, Ended, Failed, is_memory, Happens, Sees, Walks, Visits, Advances, CommitsAs, Tends, recorded, without_transaction}
 use Rattle.plain_world.specs.Settings.{IsSettled, settings}
 use Rattle.plain_world.specs.Staging.{TransactionData, next_placement, staged_in}
-use Rattle.plain_world.specs.States.{WorldData}
+use Rattle.plain_world.specs.States.{WorldData, most_features}
 use Rattle.plain_world.proofs.AdmittedLemmas.{by_if, by_unless}
 use Rattle.plain_world.proofs.UnderWayLemmas.{begin_number, open_number}
 
@@ -70,7 +70,7 @@ module _ (old new : WorldData) where
 
   stay_commits_as : (judgement : Judgement) (seat number : ℕ) (subject : Subject) (changes : List Change) (reply : Reply) → CommitsAs judgement seat number subject changes old new reply → Stay
   stay_commits_as judgements.Accepted seat number subject changes reply d =
-      go (old.state.version == LAST) (nat_lt old.limits.features (length (after (old.state.version + 1) subject.office changes old.state.features))) d
+      go (old.state.version == LAST) (nat_lt (most_features old) (length (after (old.state.version + 1) subject.office changes old.state.features))) d
     where
       go : (last full : Bool) → MatchBool last ((new ≡ old) × (reply ≡ Failed faults.Spent)) (MatchBool full ((new ≡ old) × (reply ≡ Failed faults.StoreFull))
           ((reply ≡ Ended (outcomes.Applied (old.state.version + 1))) × (new ≡ without_transaction number (recorded seat (applied subject (old.state.version + 1) changes) old)))) → Stay

@@ -29,7 +29,7 @@ use Rattle.plain_world.specs.Events.{Event, TakeSeat, OpenSearch, VisitNext, Fin
 use Rattle.plain_world.specs.Laws.{IsBelowEach, AreGiven, IsWithin, AreWithin, IsUnderWay}
 use Rattle.plain_world.specs.Staging.{TransactionData, transaction_with, staged_in, with_step, staged, one_placed, ended, names, next_placement, placements, brought_by}
 use Rattle.judging.specs.States.{PlainState}
-use Rattle.plain_world.specs.States.{WorldData, opened, opened_from}
+use Rattle.plain_world.specs.States.{WorldData, opened, opened_from, most_features}
 use Rattle.plain_world.proofs.AdmittedLemmas.{by_if, by_unless, own_open}
 use Rattle.plain_world.proofs.RunLemmas.{and_then_ok}
 
@@ -229,7 +229,7 @@ way_advances number t old new reply found d h = go (next_placement t) refl d
 
 way_applies : (seat number : ℕ) (subject : Subject) (changes : List Change) (old new : WorldData) (reply : Reply) → Applies seat number subject changes old new reply → IsUnderWay old → IsUnderWay new
 way_applies seat number subject changes old new reply d h =
-    go (old.state.version == LAST) (nat_lt old.limits.features (length (after (old.state.version + 1) subject.office changes old.state.features))) d
+    go (old.state.version == LAST) (nat_lt (most_features old) (length (after (old.state.version + 1) subject.office changes old.state.features))) d
   where
     go : (last full : Bool) → MatchBool last ((new ≡ old) × (reply ≡ Failed faults.Spent)) (MatchBool full ((new ≡ old) × (reply ≡ Failed faults.StoreFull))
         ((reply ≡ Ended (outcomes.Applied (old.state.version + 1))) × (new ≡ without_transaction number (recorded seat (applied subject (old.state.version + 1) changes) old)))) → IsUnderWay new

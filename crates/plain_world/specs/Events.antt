@@ -31,7 +31,7 @@ use Rattle.plain_world.specs.Admitting.{LAST, search_with, may_sit, may_open, ma
 use Rattle.plain_world.specs.Answers.{AnswerData, denial_of}
 use Rattle.plain_world.specs.Rolls.{RolledData}
 use Rattle.plain_world.specs.Staging.{TransactionData, next_placement, staged_in, with_step, staged, one_placed, ended}
-use Rattle.plain_world.specs.States.{WorldData}
+use Rattle.plain_world.specs.States.{WorldData, most_features}
 
 pub data Event : Type 0 where
   TakeSeat : (name : List ℕ) → Event
@@ -191,13 +191,13 @@ TurnsAway seat number subject changes (judgements.Refused refusal question) old 
     (reply ≡ Ended (outcomes.Refused refusal (denial_of old.state.decider refusal.cause question)))
     × (new ≡ without_transaction number (recorded seat (turned_away subject changes refusal) old))
 
--- an accepted list: X8 if there is no next version, X11 if there would be too many features; else
--- it is applied under the next version and recorded, and its transaction ends
+-- an accepted list: X8 if there is no next version, X11 if there would be more features than may
+-- be; else it is applied under the next version and recorded, and its transaction ends
 abbrev pub Applies : ℕ → ℕ → Subject → List Change → WorldData → WorldData → Reply → Type 0
 Applies seat number subject changes old new reply =
     let version = old.state.version + 1 in
     MatchBool (old.state.version == LAST) ((new ≡ old) × (reply ≡ Failed faults.Spent))
-    (MatchBool (nat_lt old.limits.features
+    (MatchBool (nat_lt (most_features old)
     (length (after version subject.office changes old.state.features))) ((new ≡ old)
     × (reply ≡ Failed faults.StoreFull))
     ((reply ≡ Ended (outcomes.Applied version))

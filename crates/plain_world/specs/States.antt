@@ -1,5 +1,5 @@
 -- The plain state of a whole world.
-use Rattle.std.specs.Prelude.{◌≡◌, ℕ, ◌≤◌, ◌+◌, List, [], length}
+use Rattle.std.specs.Prelude.{◌≡◌, ℕ, ◌≤◌, ◌+◌, List, [], length, max}
 use Rattle.features.specs.declared.actors.Subject.{Subject}
 use Rattle.decision.specs.Deciders.{DeciderData}
 use Rattle.audit_trail.specs.Legal.{replay, IsLegal}
@@ -39,6 +39,11 @@ pub record IsSound (seats : List Subject) (base : PlainState) (trail : List Reco
   pub legal : IsLegal seats base trail
   pub replayed : replay base trail ≡ state
   pub few_seats : length seats ≤ SEAT_LIMIT
+
+-- the most features that a list of changes may leave: as many as the limit says, or as many as
+-- there are, where the world was opened with more
+abbrev pub most_features : WorldData → ℕ
+most_features w = max w.limits.features (length w.state.features)
 
 abbrev pub IsSoundWorld : WorldData → Type 0
 IsSoundWorld w = IsSound w.seats w.base w.trail w.state

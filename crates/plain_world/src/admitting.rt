@@ -224,8 +224,8 @@ impl<A: Allocator> PlainWorld<A> {
     {
         let subject = self.subject_at(seat)?;
         stewarded(&subject)?;
-        let next = self.trail.first() as u64 + self.trail.len() as u64;
-        if next > FIRST_LIMIT as u64 {
+        let next = self.trail.first() + u64::from(self.trail.len());
+        if next > FIRST_LIMIT {
             return Err(Fault::Spent);
         }
         Ok(())

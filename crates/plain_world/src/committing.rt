@@ -1,6 +1,6 @@
 //! Transactions: staged, placed, and committed as a whole or not at all.
 
-ghost use Rattle.std.specs.Prelude.{◌≡◌, ◌<◌, length, OnOk, Option};
+ghost use Rattle.std.specs.Prelude.{◌≡◌, ◌<◌, ◌≤◌, length, OnOk, Option};
 ghost use Rattle.std.specs.Arc.{arc_value};
 ghost use Rattle.features.specs.Changes.{after, CanApply};
 ghost use Rattle.combining.specs.declared.questions.Question.{Question};
@@ -11,11 +11,14 @@ ghost use Rattle.audit_trail.specs.Records as deeds;
 ghost use Rattle.plain_world.specs.Answers.{denial_of};
 ghost use Rattle.plain_world.specs.Events.{Happens, Begin, Stage, Commit, Abort, Number, Done, Ended, reply_of, UnlessMemory, TurnsAway, Applies, changes_in, without_transaction};
 ghost use Rattle.plain_world.specs.Staging.{staged_in};
+ghost use Rattle.plain_world.specs.States.{most_features};
+ghost use Rattle.feature_store.specs.declared.tables.TheConstants.{FEATURE_LIMIT};
 
 use crate::denials::denial_for;
 use crate::faults::Fault;
 use crate::open_transactions::{Transaction, end, stage_in, staged_in};
 use crate::outcomes::Outcome;
+use crate::settings::CHANGE_LIMIT;
 use crate::worlds::PlainWorld;
 use audit_trail::{Deed, Record};
 use combining::Question;
@@ -35,6 +38,14 @@ impl<A: Allocator> PlainWorld<A> {
         self.may_stage(seat, number, &change)?;
         stage_in(&mut self.transactions, number, change);
         Ok(())
+    }
+
+    /// The most features that a list may leave: as many as the limit says, or as many as there are.
+    fn most_features(&self) -> usize
+        ensures value { result ≡ most_features self.now }
+        ensures within { result ≤ FEATURE_LIMIT }
+    {
+        (self.limits.features as usize).max(self.store.len())
     }
 
     /// Aborts a transaction. X1 where the seat was not given or no such transaction is open, X2
@@ -67,8 +78,8 @@ impl<A: Allocator + Copy> PlainWorld<A> {
     /// shape is not placed, X10 where the trail is full, X12 where the allocation for a copy of the
     /// list is refused. Then the list is judged on the present state.
     ///
-    /// Of an accepted list: X8 where the version is `u64::MAX`, X11 where it would leave too many
-    /// features, then X12 where an allocation for its record or for the features that it adds is
+    /// Of an accepted list: X8 where the version is `u64::MAX`, X11 where it would leave more
+    /// features than the limit says and more than there are, then X12 where an allocation for its record or for the features that it adds is
     /// refused. A failing list is rejected, and the outcome names its first failing change; X12
     /// where an allocation for its record or its denial is refused.
     pub fn commit(&mut self, seat: u32, number: u64) -> Result<Outcome, Fault>
@@ -124,6 +135,7 @@ impl<A: Allocator + Copy> PlainWorld<A> {
         requires seated { IsSeated seat self.old.seats subject }
         requires accepted { Judged self.old.state subject changes.items judgements.Accepted }
         requires distinct { AreDistinct changes.items }
+        requires few { length changes.items ≤ CHANGE_LIMIT }
         requires below { length self.old.trail < self.old.limits.records }
         ensures { UnlessMemory self.old self.new (reply_of Ended result)
             (Applies seat number subject changes.items self.old self.new (reply_of Ended result)) }
@@ -131,7 +143,7 @@ impl<A: Allocator + Copy> PlainWorld<A> {
         if self.version == u64::MAX {
             return Err(Fault::Spent);
         }
-        if self.store.len_after(changes.as_slice()) > self.limits.features as usize {
+        if self.store.len_after(changes.as_slice()) > self.most_features() {
             return Err(Fault::StoreFull);
         }
         let version = self.version + 1;

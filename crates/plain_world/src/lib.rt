@@ -36,7 +36,7 @@ pub use open_searches::Search;
 pub use outcomes::Outcome;
 pub use rolling::Rolled;
 pub use settings::{
-    CHANGE_LIMIT, Limits, ROLLED_LIMIT, SEARCH_LIMIT, SEAT_LIMIT, STEP_LIMIT, Starts,
-    TRANSACTION_LIMIT,
+    CHANGE_LIMIT, FeatureLimit, Limits, ROLLED_LIMIT, SEARCH_LIMIT, SEAT_LIMIT, STEP_LIMIT, Starts,
+    TRANSACTION_LIMIT, USUAL_FEATURES,
 };
 pub use worlds::{Base, PlainWorld};

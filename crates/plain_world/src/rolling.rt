@@ -104,7 +104,7 @@ impl<A: Allocator + Copy> PlainWorld<A> {
             (reply_of (λ piece. TakenOut (arc_value piece)) result)
             (Rolls self.old self.new (reply_of (λ piece. TakenOut (arc_value piece)) result)) }
     {
-        let first = self.trail.first() + self.trail.len();
+        let first = self.trail.first() + u64::from(self.trail.len());
         let base = mem::replace(&mut self.base, next);
         let trail = mem::replace(&mut self.trail, Trail::starting_at(self.alloc, first));
         match shared(self.alloc, Rolled { base, trail, lines }) {

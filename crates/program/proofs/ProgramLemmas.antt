@@ -1,6 +1,8 @@
 -- What is done for the words of a command line, and what is returned.
-use Rattle.std.proofs.Common.{◌≡◌, ◌∙◌, ℕ, List, Option, Some, Result, Ok, Err, ap, codes, option_map, refl, sym, subst}
-use Rattle.command_line.specs.Asking.{HasOptions, IsAsked}
+use Rattle.std.proofs.Common.{◌≡◌, ◌∙◌, ℕ, List, Option, Some, IfSome, Result, Ok, Err, ap, codes, option_map, refl, sym, subst}
+use Rattle.command_line.specs.Asking.{HasOptions, IsAsked, IsUpTo}
+use Rattle.command_line.specs.Http.{IsHttpAt}
+use Rattle.command_line.specs.declared.options.TheConstants.{HTTP_WORKER_LIMIT}
 use Rattle.command_line.specs.CommandLine.{AreTurnedDown, AskFor, given_by}
 use Rattle.command_line.specs.declared.shells.Shell.{Shell}
 use Rattle.command_line.specs.declared.words.Asked.{Asked}
@@ -12,7 +14,7 @@ use Rattle.command_line.specs.declared.words.Shown.{Shown}
 use Rattle.program.specs.Programs.{DrawAnswered, IsAnswer, IsDone, IsFault, IsServerFault, IsGridIn, IsServerOf, LookAnswered, PageAnswered, ScriptAnswered, TransferAnswered, AskForTransfer, WantServer}
 use Rattle.configuration.specs.Configs.{config_data}
 use Rattle.program.specs.RunFaults.{BrokeOff, IsOfConfig}
-use Rattle.program.specs.Runs.{IsConfigOf, RanScript}
+use Rattle.program.specs.Runs.{IsConfigOf, RanScript, features_asked}
 use Rattle.program.specs.declared.ends.TransferWords.{TransferWords}
 use Rattle.program.specs.declared.ends.WantedServer.{WantedServer}
 use Rattle.program.specs.declared.faults.ProgramFault.{ProgramFault}
@@ -24,18 +26,23 @@ use Rattle.byte_streams.specs.declared.writing.Flushed.{Flushed}
 pub script_answers : {O : Type 0} (words : List (List ℕ)) (held : List ℕ → Option (List ℕ)) (closed : List ℕ → Type 0) (written : O → Option (List ℕ)) (output after : O) (files : ScriptWords) (result : Result Answer ProgramFault)
     → IsAsked words (Script files) → ScriptAnswered held closed files written output after result → IsAnswer words held closed written output after result
 script_answers words held closed written output after files (Ok (answers.Done flushed)) asked h =
-    IsDone.serves files.script.now asked.0 asked.1.0 (asked.1.2 ∙ ap (option_map (λ name. name.now)) h.0) (subst (λ c. RanScript held c files.script.now (written output) (written after)) (sym asked.1.1) h.1)
+    let config = subst (λ c. RanScript held c (features_asked files.features) files.script.now (written output) (written after)) (sym asked.1.config) h.1 in
+    IsDone.serves files.script.now asked.0 asked.1.script (asked.1.store ∙ ap (option_map (λ name. name.now)) h.0)
+    (subst (λ asked. RanScript held (given_by words (codes "config")) (features_asked asked) files.script.now (written output) (written after)) asked.1.features config)
 script_answers words held closed written output after files (Ok (answers.Keep wanted)) asked h = (
   record {
     asked = asked.0;
-    script = asked.1.0 ∙ ap Some h.0;
-    folder = asked.1.2 ∙ h.1;
-    config = subst (λ c. IsConfigOf held c (config_data wanted.config)) (sym asked.1.1) h.2;
+    script = asked.1.script ∙ ap Some h.0;
+    folder = asked.1.store ∙ h.1;
+    config = subst (λ c. IsConfigOf held c (config_data wanted.config)) (sym asked.1.config) h.2;
+    features = h.3 ∙ ap features_asked asked.1.features;
   },
-  h.3,
+  h.4,
 )
 script_answers words held closed written output after files (Err fault) asked h =
-    IsFault.script files.script.now fault asked.0 asked.1.0 (subst (λ c. BrokeOff held closed c files.script.now (written output) (written after) fault) (sym asked.1.1) h)
+    let config = subst (λ c. BrokeOff held closed c (features_asked files.features) files.script.now (written output) (written after) fault) (sym asked.1.config) h in
+    IsFault.script files.script.now fault asked.0 asked.1.script
+    (subst (λ asked. BrokeOff held closed (given_by words (codes "config")) (features_asked asked) files.script.now (written output) (written after) fault) asked.1.features config)
 script_answers words held closed written output after files (Ok (answers.Serve server)) asked h = absurd h
 script_answers words held closed written output after files (Ok (answers.Connect path)) asked h = absurd h
 script_answers words held closed written output after files (Ok (answers.Look given)) asked h = absurd h
@@ -53,6 +60,10 @@ server_wanted words held asked given server is_asked is made =
       config = subst (λ c. IsConfigOf held c (config_data server.config)) (sym of_given.1.config) made.1;
       store = of_given.1.store ∙ ap (option_map (λ name. name.now)) (sym made.2);
       waits = of_given.1.waits ∙ ap Some (sym made.3);
+      http = subst (IsHttpAt (given_by words)) (sym made.4) of_given.1.http;
+      http_workers = made.5 ∙ of_given.1.http_workers;
+      http_workers_fit = subst (λ count. IfSome count (IsUpTo HTTP_WORKER_LIMIT)) (sym made.5) of_given.1.http_workers_fit;
+      features = made.6 ∙ ap features_asked of_given.1.features;
     }
 
 -- or its configuration is at fault

@@ -27,19 +27,19 @@ pub misconfigured : (known text : Option (List ℕ)) (fault : ConfigFault) → k
     IfSome text (λ text. IsConfigFault fault text)
 misconfigured known text fault same h = subst (λ known. IfSome known (λ text. IsConfigFault fault text)) same h
 
-module _ (held : List ℕ → Option (List ℕ)) (config : Option (List ℕ)) (name : List ℕ) (c : ConfigData) (known before after : Option (List ℕ)) where
+module _ (held : List ℕ → Option (List ℕ)) (config : Option (List ℕ)) (features : ℕ) (name : List ℕ) (c : ConfigData) (known before after : Option (List ℕ)) where
   -- a run with a configuration served the script of a file
-  pub ran : (result : Result Flushed ProgramFault) → IsConfigOf held config c → known ≡ held name → OnOk result (IfSome known (λ text. Served c text before after)) →
-      OnOk result (RanScript held config name before after)
+  pub ran : (result : Result Flushed ProgramFault) → IsConfigOf held config c → known ≡ held name → OnOk result (IfSome known (λ text. Served c features text before after)) →
+      OnOk result (RanScript held config features name before after)
   ran (Ok u) is_config same served =
-      record { configured = c; is_config = is_config; served = subst (λ known. IfSome known (λ text. Served c text before after)) same served }
+      record { configured = c; is_config = is_config; served = subst (λ known. IfSome known (λ text. Served c features text before after)) same served }
   ran (Err e) is_config same served = tt
 
   -- or it broke off
-  pub broke_off : (closed : List ℕ → Type 0) (result : Result Flushed ProgramFault) → IsConfigOf held config c → known ≡ held name → IfErr result (IsOfRun c known before after) →
-      IfErr result (BrokeOff held closed config name before after)
+  pub broke_off : (closed : List ℕ → Type 0) (result : Result Flushed ProgramFault) → IsConfigOf held config c → known ≡ held name → IfErr result (IsOfRun c features known before after) →
+      IfErr result (BrokeOff held closed config features name before after)
   broke_off closed (Ok u) is_config same h = tt
-  broke_off closed (Err fault) is_config same h = BrokeOff.in_run c is_config (subst (λ known. IsOfRun c known before after fault) same h)
+  broke_off closed (Err fault) is_config same h = BrokeOff.in_run c is_config (subst (λ known. IsOfRun c features known before after fault) same h)
 
 -- appended output stays appended after a flush that keeps it
 kept_on : (before mid after : Option (List ℕ)) (said : List ℕ) → Appends before mid said → Keeps mid after → Appends before after said
@@ -49,11 +49,11 @@ kept_on (Some xs) (Some ys) None said a k = absurd k
 kept_on (Some xs) (Some ys) (Some zs) said a k = k ∙ a
 
 -- a run over the world that a configuration opens serves the script of a file
-pub served : (c : ConfigData) (known before mid after : Option (List ℕ)) (world end : WorldData) → world ≡ world_of c →
+pub served : (c : ConfigData) (features : ℕ) (known before mid after : Option (List ℕ)) (world end : WorldData) → world ≡ world_of c features →
     IfSome known (λ input. (said : List ℕ) × Appends before mid said × IsScriptText world input end said) → Keeps mid after →
-    IfSome known (λ script. Served c script before after)
-served c None before mid after world end opens told keeps = tt
-served c (Some input) before mid after world end opens told keeps =
+    IfSome known (λ script. Served c features script before after)
+served c features None before mid after world end opens told keeps = tt
+served c features (Some input) before mid after world end opens told keeps =
     record {
       said = told.0;
       end = end;
@@ -62,10 +62,10 @@ served c (Some input) before mid after world end opens told keeps =
     }
 
 -- how far such a run has come
-pub came : (c : ConfigData) (end : Result Flushed ServeFault) (world last : WorldData) (sessions : List SessionState) (input left before mid after : Option (List ℕ)) →
-    world ≡ world_of c → RanLines (NeverEnds LineTells) end (script world []) (script last sessions) input left before mid → Keeps mid after →
-    CameTo c end input before after
-came c end world last sessions input left before mid after opens ran keeps =
+pub came : (c : ConfigData) (features : ℕ) (end : Result Flushed ServeFault) (world last : WorldData) (sessions : List SessionState) (input left before mid after : Option (List ℕ)) →
+    world ≡ world_of c features → RanLines (NeverEnds LineTells) end (script world []) (script last sessions) input left before mid → Keeps mid after →
+    CameTo c features end input before after
+came c features end world last sessions input left before mid after opens ran keeps =
     record {
       sessions = sessions;
       last = last;
@@ -76,8 +76,8 @@ came c end world last sessions input left before mid after opens ran keeps =
     }
 
 -- the fault by which it ended, as it is shown
-pub of_run : (c : ConfigData) (fault : ServeFault) (input before after : Option (List ℕ)) → CameTo c (Err fault) input before after → IsOfRun c input before after (program_fault fault)
-of_run c (reasons.Read failed) input before after h = (refl, h)
-of_run c (reasons.Write failed) input before after h = (Err (reasons.Write failed), h)
-of_run c (reasons.TooManyTurns turns) input before after h = (refl, h)
-of_run c (reasons.Memory refused) input before after h = (refl, h)
+pub of_run : (c : ConfigData) (features : ℕ) (fault : ServeFault) (input before after : Option (List ℕ)) → CameTo c features (Err fault) input before after → IsOfRun c features input before after (program_fault fault)
+of_run c features (reasons.Read failed) input before after h = (refl, h)
+of_run c features (reasons.Write failed) input before after h = (Err (reasons.Write failed), h)
+of_run c features (reasons.TooManyTurns turns) input before after h = (refl, h)
+of_run c features (reasons.Memory refused) input before after h = (refl, h)

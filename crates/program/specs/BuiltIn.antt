@@ -15,4 +15,9 @@ open_document = record {
 }
 
 abbrev pub built_in_config : ConfigData
-built_in_config = record { subjects = built_in; document = open_document; grid = None }
+built_in_config = record {
+  subjects = built_in;
+  document = open_document;
+  grid = None;
+  web = record { anonymous = None; public = None; collections = [] };
+}

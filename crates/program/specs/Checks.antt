@@ -4,9 +4,10 @@ use Rattle.std.specs.Io.KnownBytes.{Appends}
 use Rattle.byte_streams.specs.declared.writing.Flushed.{Flushed}
 use Rattle.command_line.specs.CommandLine.{AskFor, given_by, shell_at}
 use Rattle.command_line.specs.declared.shells.Shell.{Shell}
-use Rattle.configuration.specs.Checking.{IsCheckOf, IsRight, IsWrong, checked_text, grid_part, wrong_text}
+use Rattle.configuration.specs.Checking.{IsCheckOf, IsRight, IsWrong, checked_text, grid_part, web_part, wrong_text}
 use Rattle.configuration.specs.ConfigFiles.{IsReadFault}
 use Rattle.configuration.specs.Summaries.{summary_text}
+use Rattle.configuration.specs.Web.{WebData}
 use Rattle.configuration.specs.declared.checking.Checked.{Checked}
 use Rattle.configuration.specs.declared.config_faults.ConfigFault.{ConfigFault}
 use Rattle.configuration.specs.declared.config_faults.ConfigFault.TheVariants.{Memory}
@@ -39,8 +40,9 @@ FindingWritten checked (Err failed) before after = Unit {0}
 -- the configuration in a file is right, and what it has was written
 abbrev pub IsFoundRight : Option (List ℕ) → Option (List ℕ) → Option (List ℕ) → Type 0
 IsFoundRight held before after =
-    (summary : Summary) × (grid : Option Grid) × IfSome held (IsRight summary grid)
-    × Appends before after (summary_text summary ++ grid_part grid)
+    (summary : Summary) × (grid : Option Grid) × (web : WebData)
+    × IfSome held (IsRight summary grid web)
+    × Appends before after (summary_text summary ++ (grid_part grid ++ web_part web))
 
 -- it is wrong, and its first fault was written, with its place if that is known
 abbrev pub IsFoundWrong : ConfigFault → Option (List ℕ) → Option (List ℕ) → Option (List ℕ) → Type 0

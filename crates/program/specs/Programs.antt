@@ -1,13 +1,15 @@
 -- What a run of the program writes and returns.
-use Rattle.std.specs.Prelude.{◌≡◌, ℕ, List, Option, None, Some, Result, Ok, Err, codes, option_map}
+use Rattle.std.specs.Prelude.{◌≡◌, ℕ, List, Option, None, Some, IfSome, Result, Ok, Err, codes, option_map}
 use Rattle.byte_streams.specs.Written.{Took}
-use Rattle.command_line.specs.Asking.{HasExport, HasImport, HasOptions, HasStore}
-use Rattle.command_line.specs.CommandLine.{AreTurnedDown, AskFor, AskForHelp, given_by, waits_at}
+use Rattle.command_line.specs.Asking.{HasExport, HasImport, HasOptions, HasStore, IsUpTo}
+use Rattle.command_line.specs.CommandLine.{AreTurnedDown, AskFor, AskForHelp, given_by, number_at, waits_at}
+use Rattle.command_line.specs.Http.{IsHttpAt}
+use Rattle.command_line.specs.declared.options.TheConstants.{HTTP_WORKER_LIMIT}
 use Rattle.configuration.specs.Configs.{ConfigData, config_data, grid_data}
 use Rattle.program.specs.Checks.{AskForPage, DrawBroke, IsDrawn, IsFoundRight, IsWritten, LookBroke, PageBroke}
 use Rattle.program.specs.Ends.{IsUnwritten, fault_line}
 use Rattle.program.specs.RunFaults.{BrokeOff, IsOfConfig}
-use Rattle.program.specs.Runs.{IsConfigOf, RanScript}
+use Rattle.program.specs.Runs.{IsConfigOf, RanScript, features_asked}
 use Rattle.program.specs.declared.runs.Answer.{Answer}
 use Rattle.program.specs.declared.runs.Answer.TheVariants as answers
 use Rattle.program.specs.declared.ends.Ended.{Ended}
@@ -28,13 +30,17 @@ use Rattle.command_line.specs.declared.words.ScriptWords.{ScriptWords}
 use Rattle.command_line.specs.declared.words.ServeWords.{ServeWords}
 use Rattle.command_line.specs.declared.stores.StoreWords.{StoreWords}
 
+-- the most features that there may be, by the words
+abbrev pub features_of : List (List ℕ) → ℕ
+features_of words = features_asked (number_at (given_by words) (codes "features"))
+
 -- What these words ask for is done. `held` gives what the file of a name reads, if known.
 pub data IsDone (words : List (List ℕ)) (held : List ℕ
     → Option (List ℕ)) (before after : Option (List ℕ)) : Type 0 where
   -- they ask for a script without a store, and it was served
   serves : (script : List ℕ) → AskFor (codes "script") words
       → given_by words (codes "FILE") ≡ Some script → given_by words (codes "store") ≡ None
-      → RanScript held (given_by words (codes "config")) script before after
+      → RanScript held (given_by words (codes "config")) (features_of words) script before after
       → IsDone words held before after
   -- they ask for a look at a configuration, and it is right
   checks : (name : List ℕ) → AskFor (codes "check") words
@@ -57,7 +63,8 @@ pub data IsFault (words : List (List ℕ)) (held : List ℕ → Option (List ℕ
   -- they ask for a script, and its run broke off
   script : (name : List ℕ) (fault : ProgramFault) → AskFor (codes "script") words
       → given_by words (codes "FILE") ≡ Some name
-      → BrokeOff held closed (given_by words (codes "config")) name before after fault
+      → BrokeOff held closed (given_by words (codes "config")) (features_of words) name before after
+      fault
       → IsFault words held closed before after fault
   -- they ask for a server, but there is no configuration
   no_server : (fault : ProgramFault) → AskFor (codes "serve") words
@@ -93,6 +100,10 @@ pub record WantServer (words : List (List ℕ)) (held : List ℕ
   pub config : IsConfigOf held (given_by words (codes "config")) (config_data server.config)
   pub store : given_by words (codes "store") ≡ option_map (λ name. name.now) server.store
   pub waits : waits_at (given_by words) (codes "wait") ≡ Some server.waits
+  pub http : IsHttpAt (given_by words) server.http
+  pub http_workers : server.http_workers ≡ number_at (given_by words) (codes "http-workers")
+  pub http_workers_fit : IfSome server.http_workers (IsUpTo HTTP_WORKER_LIMIT)
+  pub features : server.features.number ≡ features_of words
 
 -- These words ask for this script over a store: file and folder are theirs, and its configuration is
 -- the built-in one or that of the file that they name.
@@ -102,6 +113,7 @@ pub record WantKept (words : List (List ℕ)) (held : List ℕ
   pub script : given_by words (codes "FILE") ≡ Some wanted.script.now
   pub folder : given_by words (codes "store") ≡ Some wanted.folder.now
   pub config : IsConfigOf held (given_by words (codes "config")) (config_data wanted.config)
+  pub features : wanted.features.number ≡ features_of words
 
 -- these words ask for this look at a store
 abbrev pub WantLook : List (List ℕ) → StoreWords → Type 0
@@ -134,7 +146,9 @@ abbrev pub IsServerOf : (List ℕ → Option (List ℕ)) → ServeWords → Want
 IsServerOf held given server =
     (server.options ≡ given.options)
     × IsConfigOf held (option_map (λ name. name.now) given.config) (config_data server.config)
-    × (server.store ≡ given.store) × (server.waits ≡ given.waits)
+    × (server.store ≡ given.store) × (server.waits ≡ given.waits) × (server.http ≡ given.http)
+    × (server.http_workers ≡ given.http_workers)
+    × (server.features.number ≡ features_asked given.features)
 
 abbrev pub IsServerFault : (List ℕ → Option (List ℕ)) → (List ℕ → Type 0) → ServeWords
     → ProgramFault → Type 0
@@ -185,15 +199,15 @@ abbrev pub ScriptAnswered : {O : Type 0} → (List ℕ → Option (List ℕ)) �
     → ScriptWords → (O → Option (List ℕ)) → O → O → Result Answer ProgramFault → Type 0
 ScriptAnswered held closed files written output output_after (Ok (answers.Done flushed)) =
     (files.store ≡ None) × RanScript held (option_map (λ name. name.now) files.config)
-    files.script.now (written output) (written output_after)
+    (features_asked files.features) files.script.now (written output) (written output_after)
 ScriptAnswered held closed files written output output_after (Ok (answers.Keep wanted)) =
     (files.script.now ≡ wanted.script.now)
     × (option_map (λ name. name.now) files.store ≡ Some wanted.folder.now)
     × IsConfigOf held (option_map (λ name. name.now) files.config) (config_data wanted.config)
-    × (output_after ≡ output)
+    × (wanted.features.number ≡ features_asked files.features) × (output_after ≡ output)
 ScriptAnswered held closed files written output output_after (Err fault) =
-    BrokeOff held closed (option_map (λ name. name.now) files.config) files.script.now
-    (written output) (written output_after) fault
+    BrokeOff held closed (option_map (λ name. name.now) files.config) (features_asked files.features)
+    files.script.now (written output) (written output_after) fault
 ScriptAnswered held closed files written output output_after (Ok (answers.Serve server)) = ⊥
 ScriptAnswered held closed files written output output_after (Ok (answers.Connect path)) = ⊥
 ScriptAnswered held closed files written output output_after (Ok (answers.Look given)) = ⊥

@@ -40,14 +40,14 @@ IsOfConfig held closed (Some name) _ = ⊥
 
 -- how far a run over the world that a configuration opens came before it ended with `end`; a flush
 -- of the output followed
-pub record CameTo (config : ConfigData) (end : Result Flushed ServeFault)
+pub record CameTo (config : ConfigData) (features : ℕ) (end : Result Flushed ServeFault)
     (input before after : Option (List ℕ)) : Type 0 where
   pub sessions : List SessionState
   pub last : WorldData
   pub left : Option (List ℕ)
   pub written : Option (List ℕ)
-  pub ran : Ran (NeverEnds LineTells) end (script (world_of config) []) (script last sessions) input
-      left before written
+  pub ran : Ran (NeverEnds LineTells) end (script (world_of config features) [])
+      (script last sessions) input left before written
   pub kept : Keeps written after
 
 -- opening the world can only run out of memory
@@ -57,28 +57,28 @@ IsMemory _ = ⊥
 
 -- A fault of the run. `World`: the world could not be opened. `CannotWrite`: a write or the final
 -- flush failed, however far the run had come. `Run`: it ended with another fault.
-abbrev pub IsOfRun : ConfigData → Option (List ℕ) → Option (List ℕ) → Option (List ℕ) → ProgramFault
-    → Type 0
-IsOfRun config input before after (World fault) = IsMemory fault × (after ≡ before)
-IsOfRun config input before after (CannotWrite failed) =
-    (end : Result Flushed ServeFault) × CameTo config end input before after
-IsOfRun config input before after (Run fault) =
-    (program_fault fault ≡ Run fault) × CameTo config (Err fault) input before after
-IsOfRun config input before after _ = ⊥
+abbrev pub IsOfRun : ConfigData → ℕ → Option (List ℕ) → Option (List ℕ) → Option (List ℕ)
+    → ProgramFault → Type 0
+IsOfRun config features input before after (World fault) = IsMemory fault × (after ≡ before)
+IsOfRun config features input before after (CannotWrite failed) =
+    (end : Result Flushed ServeFault) × CameTo config features end input before after
+IsOfRun config features input before after (Run fault) =
+    (program_fault fault ≡ Run fault) × CameTo config features (Err fault) input before after
+IsOfRun config features input before after _ = ⊥
 
 -- A run of the script in a named file ended with this fault. `held` gives what the file of a name
 -- reads, if known; `closed` holds for each name whose file was not opened.
 pub data BrokeOff (held : List ℕ → Option (List ℕ)) (closed : List ℕ
-    → Type 0) (config : Option (List ℕ)) (script_name : List ℕ) (before after : Option (List ℕ))
-    (fault : ProgramFault) : Type 0 where
+    → Type 0) (config : Option (List ℕ)) (features : ℕ) (script_name : List ℕ)
+    (before after : Option (List ℕ)) (fault : ProgramFault) : Type 0 where
   -- there was no configuration
   unconfigured : IsOfConfig held closed config fault → after ≡ before
-      → BrokeOff held closed config script_name before after fault
+      → BrokeOff held closed config features script_name before after fault
   -- there was a configuration, but the script was not opened
   without_script : (configured : ConfigData) → IsConfigOf held config configured
       → IsUnopened closed script_name fault → after ≡ before
-      → BrokeOff held closed config script_name before after fault
+      → BrokeOff held closed config features script_name before after fault
   -- there were both
   in_run : (configured : ConfigData) → IsConfigOf held config configured
-      → IsOfRun configured (held script_name) before after fault
-      → BrokeOff held closed config script_name before after fault
+      → IsOfRun configured features (held script_name) before after fault
+      → BrokeOff held closed config features script_name before after fault

@@ -63,7 +63,7 @@ pub fn check_named<'a, F: Folder, W: Write>(
         Err(failed) => return Err(ProgramFault::CannotWrite(failed)),
     };
     match checked {
-        Checked::Right(..) => Ok(flushed),
+        Checked::Right(_summary, _grid, _web) => Ok(flushed),
         Checked::Wrong(fault, _place) => Err(ProgramFault::Config(fault)),
     }
 }

@@ -5,10 +5,11 @@ ghost use Rattle.program.specs.Ends.{exit_status};
 
 use crate::faults::ProgramFault;
 use byte_streams::{Flushed, WriteFailed};
-use command_line::{ExportWords, ImportWords, ServerOptions, StoreWords, Waits};
+use command_line::{ExportWords, HttpWord, ImportWords, ServerOptions, StoreWords, Waits};
 use configuration::Config;
 use grid::Grid;
 use std::alloc::Global;
+use world::FeatureLimit;
 
 /// How a run of the program ended.
 #[derive(Debug, Drop)]
@@ -45,6 +46,12 @@ pub struct WantedServer<'a> {
     pub store: Option<&'a str>,
     /// For which records replies wait, where there is a store.
     pub waits: Waits,
+    /// Where it answers HTTP; `None`: nowhere.
+    pub http: Option<HttpWord<'a>>,
+    /// How many connections of HTTP it answers side by side, if that is said.
+    pub http_workers: Option<u16>,
+    /// The most features that there may be.
+    pub features: FeatureLimit,
 }
 
 /// A script over a store that the command line asks for, with its configuration.
@@ -56,6 +63,8 @@ pub struct WantedScript<'a> {
     pub script: &'a str,
     /// The folder of the store.
     pub folder: &'a str,
+    /// The most features that there may be.
+    pub features: FeatureLimit,
 }
 
 /// An export or an import that the command line asks for.

@@ -1,11 +1,11 @@
 //! Runs of the program, from the words of the command line to its end.
 
-ghost use Rattle.std.specs.Prelude.{◌≡◌, ℕ, List, Option, Some, OnOk, IfOk, IfErr, IfSome, map, option_map, string_bytes};
+ghost use Rattle.std.specs.Prelude.{◌≡◌, ℕ, List, Option, None, Some, OnOk, IfOk, IfErr, IfSome, map, option_map, string_bytes};
 ghost use Rattle.configuration.specs.Configs.{config_data};
 ghost use Rattle.program.specs.Ends.{IsUnwritten};
 ghost use Rattle.program.specs.Programs.{DrawAnswered, IsAnswer, IsNext, IsServerFault, IsGridIn, IsServerOf, LookAnswered, PageAnswered, ScriptAnswered, TransferAnswered};
 ghost use Rattle.program.specs.RunFaults.{BrokeOff, IsOfConfig, IsOfRun};
-ghost use Rattle.program.specs.Runs.{IsConfigOf, RanScript, Served};
+ghost use Rattle.program.specs.Runs.{IsConfigOf, RanScript, Served, features_asked};
 
 use crate::built_in::built_in_config;
 use crate::checks::{check_named, draw_named, print_asked};
@@ -15,11 +15,12 @@ use crate::telling::tell;
 use byte_streams::{Flushed, NotOpened, flush, write_shown};
 use command_line::{Asked, ScriptWords, ServeWords, Shell, Shown, StoreWords, read_words};
 use configuration::{Config, FileFault, ReadFault, read_config_file};
+use feature_store::FEATURE_LIMIT;
 use grid::Grid;
 use scripts::run_script;
 use std::alloc::{Allocator, Global};
 use std::io::{Read, Write};
-use world::World;
+use world::{FeatureLimit, Starts, World};
 
 /// The folder of the files that the command line names.
 pub trait Folder {
@@ -39,25 +40,47 @@ pub trait Folder {
         ensures closed { IfErr result (λ failed. closed self.now name.now) };
 }
 
-/// Runs a script over the world that a configuration opens, and writes the replies.
+/// The most features that there may be, where so many are asked for, or where nothing is said.
+fn feature_limit(asked: Option<u32>) -> FeatureLimit
+    ensures { result.number ≡ features_asked asked }
+{
+    match asked {
+        None => FeatureLimit::usual(),
+        Some(number) => FeatureLimit {
+            number: number.min(FEATURE_LIMIT as u32),
+        },
+    }
+}
+
+/// Runs a script over the world that a configuration opens, where there may be so many features, and
+/// writes the replies.
 /// Faults: `World` if there is no memory for the world; `CannotWrite` if a write or the final flush
 /// fails; else the fault of the run.
 pub fn run_file<'a, A: Allocator + Copy, R: Read, W: Write>(
     alloc: A,
     heap: Global,
     config: Config<Global>,
+    features: FeatureLimit,
     file: &mut R,
     output: &mut W,
 ) -> Result<Flushed, ProgramFault<'a>>
     ensures served { OnOk result
         (IfSome (R.remaining file.old)
-        (λ script. Served (config_data config) script (W.contents output.old)
+        (λ script. Served (config_data config) features.number script (W.contents output.old)
         (W.contents output.new))) }
     ensures err { IfErr result
-        (IsOfRun (config_data config) (R.remaining file.old) (W.contents output.old)
-        (W.contents output.new)) }
+        (IsOfRun (config_data config) features.number (R.remaining file.old)
+        (W.contents output.old) (W.contents output.new)) }
 {
-    let mut world = match World::open(alloc, heap, config.subjects, config.document) {
+    let opened = World::open_at(
+        alloc,
+        heap,
+        config.subjects,
+        config.document,
+        Starts::FIRST,
+        features.limits(),
+    );
+    let mut world = match opened {
         Ok(world) => world,
         Err((_, fault)) => return Err(ProgramFault::World(fault)),
     };
@@ -124,11 +147,12 @@ pub fn run_named<'a, F: Folder, W: Write>(
 ) -> Result<Flushed, ProgramFault<'a>>
     ensures ran { OnOk result
         (RanScript (F.holds folder.now) (option_map (λ name. name.now) words.entry.config)
-        words.entry.script.now (W.contents output.old) (W.contents output.new)) }
+        (features_asked words.entry.features) words.entry.script.now (W.contents output.old)
+        (W.contents output.new)) }
     ensures err { IfErr result
         (BrokeOff (F.holds folder.now) (F.closed folder.now)
-        (option_map (λ name. name.now) words.entry.config) words.entry.script.now
-        (W.contents output.old) (W.contents output.new)) }
+        (option_map (λ name. name.now) words.entry.config) (features_asked words.entry.features)
+        words.entry.script.now (W.contents output.old) (W.contents output.new)) }
 {
     let config = match asked_config(heap, words.config, folder) {
         Ok(config) => config,
@@ -141,7 +165,8 @@ pub fn run_named<'a, F: Folder, W: Write>(
             return Err(ProgramFault::CannotRead(words.script, fault));
         }
     };
-    run_file(heap, heap, config, &mut file, output)
+    let features = feature_limit(words.features);
+    run_file(heap, heap, config, features, &mut file, output)
 }
 
 /// Writes help to the output, and flushes it.
@@ -187,6 +212,9 @@ fn wanted_server<'a, F: Folder>(
             config,
             store: words.store,
             waits: words.waits,
+            http: words.http,
+            http_workers: words.http_workers,
+            features: feature_limit(words.features),
         }),
         Err(fault) => Err(fault),
     }
@@ -250,6 +278,7 @@ fn answer_script<'a, F: Folder, O: Write>(
             config,
             script: words.script,
             folder: store,
+            features: feature_limit(words.features),
         })),
         Err(fault) => Err(fault),
     }

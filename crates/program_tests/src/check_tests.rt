@@ -2,7 +2,7 @@
 //! the manual page, completions, and a script from standard input.
 use crate::running::{AS_BUILT_IN, FIRST_POINT, Two, check, shows, status_of, words};
 use program::run_program;
-use std::alloc::AllocError;
+use std::alloc::{AllocError, Global};
 use std::process::Abort;
 use std::test::Fail;
 
@@ -36,6 +36,140 @@ fn right_ones(rt: HostRuntime) -> Result<(), Fail> {
     found(&rt, &rt, RIGHT, 0, (two, ""))?;
     let three = "subjects 3\nstewards 1\nzones 0\nrules that permit 1\nrules that deny 0\n";
     found(&rt, &rt, AS_BUILT_IN, 0, (three, ""))?;
+    Ok(())
+}
+
+/// What a configuration says of HTTP, with the line that is written of it.
+const SAID_OF_HTTP: [(&str, &str); 8] = [
+    (r#""collections":[]"#, ""),
+    (r#""collections":["mast"]"#, "http: 1 collection\n"),
+    (
+        r#""collections":["mast","road","parcel"]"#,
+        "http: 3 collections\n",
+    ),
+    (
+        r#""anonymous":"a""#,
+        "http: 0 collections, requests without a name are a's\n",
+    ),
+    (
+        r#""public":"http://x""#,
+        "http: 0 collections, links begin with http://x\n",
+    ),
+    (
+        r#""public":"https://maps.agency.example:8443/a/b%20c""#,
+        "http: 0 collections, links begin with https://maps.agency.example:8443/a/b%20c\n",
+    ),
+    (
+        r#""public":"https://maps.agency.example","collections":["mast","road"],"anonymous":"b""#,
+        "http: 2 collections, links begin with https://maps.agency.example, requests without a name are b's\n",
+    ),
+    (
+        r#""grid":{"origin":["0","0"],"decimals":0},"collections":["mast"]"#,
+        "grid step 1\ngrid x from -10000000 to 10000000\ngrid y from -10000000 to 10000000\nhttp: 1 collection\n",
+    ),
+];
+
+/// A right configuration of two subjects, with this beside it.
+fn with(alloc: Global, more: &str) -> Result<String, AllocError> {
+    format!(in alloc;
+        "{{\"subjects\":[{{\"name\":\"a\",\"office\":\"o\",\"role\":\"r\"}},{{\"name\":\"b\",\"office\":\"o\",\"role\":\"r\"}}],\"policies\":{{\"root\":{{\"policy\":\"p\",\"combine\":\"deny-overrides\",\"rules\":[]}}}},{more}}}"
+    )
+}
+
+#[test]
+fn said_of_http(rt: HostRuntime) -> Result<(), Fail> {
+    let counts = "subjects 2\nstewards 0\nzones 0\nrules that permit 0\nrules that deny 0\n";
+    for (more, line) in SAID_OF_HTTP {
+        let text = with(rt.alloc(), more)?;
+        let told = format!(in rt.alloc(); "{counts}{line}")?;
+        found(&rt, &rt, text.as_str(), 0, (told.as_str(), ""))?;
+    }
+    Ok(())
+}
+
+/// What is wrong of what is said of HTTP, with its place.
+const WRONG_OF_HTTP: [(&str, &str); 25] = [
+    (r#""anonymous":null"#, "/anonymous"),
+    (r#""anonymous":"c""#, "/anonymous"),
+    (r#""anonymous":"A""#, "/anonymous"),
+    (r#""anonymous":"""#, "/anonymous"),
+    (r#""anonymous":["a"]"#, "/anonymous"),
+    (r#""public":1"#, "/public"),
+    (r#""public":"""#, "/public"),
+    (r#""public":"maps.agency.example""#, "/public"),
+    (r#""public":"ftp://maps.agency.example""#, "/public"),
+    (r#""public":"HTTP://maps.agency.example""#, "/public"),
+    (r#""public":"https://""#, "/public"),
+    (r#""public":"https://x/""#, "/public"),
+    (r#""public":"https://x?y""#, "/public"),
+    (r#""public":"https://x#y""#, "/public"),
+    (r#""public":"https://x y""#, "/public"),
+    (r#""public":"https://x\"y""#, "/public"),
+    (r#""public":"https://x\\y""#, "/public"),
+    (r#""public":"https://<x>""#, "/public"),
+    (r#""public":"https://ü""#, "/public"),
+    (r#""collections":{}"#, "/collections"),
+    (r#""collections":["mast",1]"#, "/collections/1"),
+    (r#""collections":["Mast","mast"]"#, "/collections/0"),
+    (r#""collections":["mast","features"]"#, "/collections/1"),
+    (
+        r#""collections":["mast","road","mast",7]"#,
+        "/collections/2",
+    ),
+    (r#""collections":7,"public":7,"anonymous":7"#, "/anonymous"),
+];
+
+#[test]
+fn wrong_of_http(rt: HostRuntime) -> Result<(), Fail> {
+    for (more, place) in WRONG_OF_HTTP {
+        let text = with(rt.alloc(), more)?;
+        let told = format!(in rt.alloc(); "B2 at \"{place}\"\n")?;
+        found(&rt, &rt, text.as_str(), 1, (told.as_str(), "landmap: B2\n"))?;
+    }
+    Ok(())
+}
+
+/// A key with this many collections, `c0` and so on.
+fn of_collections(alloc: Global, count: usize) -> Result<String, AllocError> {
+    let mut text = String::from_str(alloc, "\"collections\":[\"c0\"")?;
+    for number in 1..count {
+        text.push_str(format!(in alloc; ",\"c{number}\"")?.as_str())?;
+    }
+    text.push_str("]")?;
+    Ok(text)
+}
+
+/// 64 collections and 200 bytes are the most.
+#[test]
+fn the_most_of_http(rt: HostRuntime) -> Result<(), Fail> {
+    let alloc = rt.alloc();
+    for (count, status) in [(64, 0), (65, 1)] {
+        let text = with(alloc, of_collections(alloc, count)?.as_str())?;
+        let counts =
+            "subjects 2\nstewards 0\nzones 0\nrules that permit 0\nrules that deny 0\nhttp: 64 collections\n";
+        let told = if status == 0 {
+            (counts, "")
+        } else {
+            ("B2 at \"/collections\"\n", "landmap: B2\n")
+        };
+        found(&rt, &rt, text.as_str(), status, told)?;
+    }
+    for (count, status) in [(200, 0), (201, 1)] {
+        let host = "x".repeat(alloc, count)?;
+        let text = with(
+            alloc,
+            format!(in alloc; "\"public\":\"http://{host}\"")?.as_str(),
+        )?;
+        let counts = format!(in alloc;
+            "subjects 2\nstewards 0\nzones 0\nrules that permit 0\nrules that deny 0\nhttp: 0 collections, links begin with http://{host}\n"
+        )?;
+        let told = if status == 0 {
+            (counts.as_str(), "")
+        } else {
+            ("B2 at \"/public\"\n", "landmap: B2\n")
+        };
+        found(&rt, &rt, text.as_str(), status, told)?;
+    }
     Ok(())
 }
 

@@ -64,6 +64,65 @@ fn subjects_and_document(rt: HostRuntime) {
     }
 }
 
+/// A configuration of two subjects that says all that may be said of HTTP.
+const HTTP: &str = r#"{"policies":{"root":{"policy":"p","combine":"deny-overrides","rules":[]}},
+ "collections":["mast","road-2"],"public":"https://maps.agency.example/map","anonymous":"ada",
+ "subjects":[{"role":"editor","office":"north","name":"ines"},
+  {"name":"ada","office":"hq","role":"chief","steward":true}]}"#;
+
+/// Checks what is said of HTTP.
+fn says_of_http<A: Allocator>(rt: &impl Abort, config: &Config<A>) {
+    let anonymous = config
+        .web
+        .anonymous
+        .map(|name| name.as_bytes() == b"ada".as_slice());
+    assert_eq!(rt; anonymous, Some(true));
+    let public = match &config.web.public {
+        Some(public) => public.as_str(),
+        None => "",
+    };
+    assert_eq!(rt; public, "https://maps.agency.example/map");
+    assert_eq!(rt; config.web.collections.len(), 2);
+    assert_eq!(rt; config.web.collections[0].as_bytes(), b"mast".as_slice());
+    assert_eq!(rt; config.web.collections[1].as_bytes(), b"road-2".as_slice());
+}
+
+#[test]
+fn said_of_http(rt: HostRuntime) {
+    match read_config(rt.alloc(), rt.alloc(), HTTP.as_bytes()) {
+        Ok(config) => says_of_http(&rt, &config),
+        Err(fault) => assert!(rt; false, "{fault}"),
+    }
+    match read_config(rt.alloc(), rt.alloc(), TWO.as_bytes()) {
+        Ok(config) => {
+            assert!(rt; config.web.anonymous.is_none());
+            assert!(rt; config.web.public.is_none());
+            assert_eq!(rt; config.web.collections.len(), 0);
+        }
+        Err(fault) => assert!(rt; false, "{fault}"),
+    }
+}
+
+/// The policies are looked at before what is said of HTTP, and the grid, too.
+#[test]
+fn http_comes_last(rt: HostRuntime) {
+    have_code(
+        &rt,
+        rt.alloc(),
+        "D2",
+        &[
+            r#"{"anonymous":1,"subjects":[{"name":"a","office":"b","role":"c"}],"policies":{}}"#,
+            r#"{"public":1,"grid":1,"subjects":[{"name":"a","office":"b","role":"c"}],"policies":{}}"#,
+        ],
+    );
+    have_code(
+        &rt,
+        rt.alloc(),
+        "N1",
+        &[r#"{"collections":1,"subjects":[],"policies":{}}"#],
+    );
+}
+
 #[test]
 fn no_json(rt: HostRuntime) {
     have_code(
@@ -183,7 +242,7 @@ fn each_allocation_of_a_configuration(rt: HostRuntime) {
     let mut refused = 0;
     for at in 1..50 {
         memory.refuse(at);
-        let read = read_config(&memory, heap, TWO.as_bytes());
+        let read = read_config(&memory, heap, HTTP.as_bytes());
         if !memory.has_refused() {
             assert!(rt; read.is_ok());
             break;

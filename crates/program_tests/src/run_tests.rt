@@ -11,6 +11,7 @@ use std::alloc::{AllocError, Global};
 use std::io::Read;
 use std::process::Abort;
 use std::test::Fail;
+use world::FeatureLimit;
 
 /// The replies to `FIRST_POINT`.
 const FIRST_REPLIES: &str =
@@ -374,6 +375,7 @@ fn without_memory(rt: &impl Abort, alloc: Global, at: u64) -> Result<Vec<u8>, Al
         &memory,
         alloc,
         config.unwrap(),
+        FeatureLimit::usual(),
         &mut FIRST_POINT.as_bytes(),
         &mut output,
     );

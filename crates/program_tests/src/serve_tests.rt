@@ -1,9 +1,10 @@
 //! How a command line asks for a server: its options, its configuration, and which fault is
 //! reported first.
 use crate::running::{BY_INES, Two, check, shows, words};
-use command_line::ServerOptions;
+use command_line::{HttpWord, ServerOptions};
 use program::{Next, run_program};
 use std::alloc::{AllocError, Global};
+use std::net::{IpAddr, Ipv4Addr, Ipv6Addr, SocketAddr};
 use std::process::Abort;
 use std::test::Fail;
 
@@ -18,7 +19,7 @@ const PLAIN: ServerOptions<'static> = ServerOptions {
 };
 
 /// Lines that clap rejects, each with the beginning of its message.
-const TURNED_DOWN: [(&str, &str); 14] = [
+const TURNED_DOWN: [(&str, &str); 30] = [
     (
         "serve",
         "error: the following required arguments were not provided:\n  --socket <PATH>\n",
@@ -70,6 +71,66 @@ const TURNED_DOWN: [(&str, &str); 14] = [
     (
         "serve --socket m.sock --connections 7 --config",
         "error: a value is required for '--config <FILE>' but none was supplied\n",
+    ),
+    (
+        "serve --socket m.sock --http 127.0.0.1",
+        "error: invalid value '127.0.0.1' for '--http <ADDRESS:PORT>'\n  an address and a port are wanted, as 127.0.0.1:8080 or [::1]:8080\n",
+    ),
+    (
+        "serve --socket m.sock --http localhost:8080",
+        "error: invalid value 'localhost:8080' for '--http <ADDRESS:PORT>'\n  an address and a port are wanted",
+    ),
+    (
+        "serve --socket m.sock --http 127.0.0.1:65536",
+        "error: invalid value '127.0.0.1:65536' for '--http <ADDRESS:PORT>'\n  an address and a port are wanted",
+    ),
+    (
+        "serve --socket m.sock --http ::1:8080",
+        "error: invalid value '::1:8080' for '--http <ADDRESS:PORT>'\n  an address and a port are wanted",
+    ),
+    (
+        "serve --socket m.sock --http 10.0.0.1:8080",
+        "error: invalid value '10.0.0.1:8080' for '--http <ADDRESS:PORT>'\n  HTTP is answered on this machine alone; put a proxy in front (docs/HTTP.md)\n\nFor more information, try '--help'.\n",
+    ),
+    (
+        "serve --socket m.sock --http 0.0.0.0:8080",
+        "error: invalid value '0.0.0.0:8080' for '--http <ADDRESS:PORT>'\n  HTTP is answered on this machine alone",
+    ),
+    (
+        "serve --socket m.sock --http [::]:8080",
+        "error: invalid value '[::]:8080' for '--http <ADDRESS:PORT>'\n  HTTP is answered on this machine alone",
+    ),
+    (
+        "serve --socket m.sock --http [::1]:80 --http-socket h.sock",
+        "error: the argument '--http <ADDRESS:PORT>' cannot be used with:\n  --http-socket <PATH>\n\nFor more information, try '--help'.\n",
+    ),
+    (
+        "serve --socket m.sock --http x --http-socket h.sock",
+        "error: the argument '--http <ADDRESS:PORT>' cannot be used with:\n  --http-socket <PATH>\n",
+    ),
+    (
+        "serve --socket m.sock --http [::1]:80 --connections 7",
+        "error: the argument '--connections <N>' cannot be used with:\n  --http <ADDRESS:PORT>\n  --http-socket <PATH>\n\nFor more information, try '--help'.\n",
+    ),
+    (
+        "serve --socket m.sock --connections 7 --http-socket h.sock",
+        "error: the argument '--connections <N>' cannot be used with:\n  --http <ADDRESS:PORT>\n  --http-socket <PATH>\n",
+    ),
+    (
+        "serve --socket m.sock --http-socket h.sock --http-workers 0",
+        "error: invalid value '0' for '--http-workers <N>': 0 is not in 1..=1024\n",
+    ),
+    (
+        "serve --socket m.sock --http-workers 1025",
+        "error: invalid value '1025' for '--http-workers <N>': 1025 is not in 1..=1024\n",
+    ),
+    (
+        "serve --socket m.sock --features 0",
+        "error: invalid value '0' for '--features <N>': 0 is not in 1..=4000000\n",
+    ),
+    (
+        "script --features 0 day.map",
+        "error: invalid value '0' for '--features <N>': 0 is not in 1..=4000000\n",
     ),
     (
         "script --socket m.sock day.map",
@@ -186,6 +247,73 @@ fn no_end(rt: HostRuntime) -> Result<(), Fail> {
     Ok(())
 }
 
+/// What a server is asked for of HTTP, and of the number of features.
+type Further<'a> = (Option<HttpWord<'a>>, Option<u16>, u32);
+
+/// Checks what `serve --socket m.sock`, followed by this line, asks for of HTTP and of features.
+fn asks_further(
+    rt: &impl Abort,
+    host: &HostRuntime,
+    line: &str,
+    further: Further<'_>,
+) -> Result<(), AllocError> {
+    let alloc = host.alloc();
+    let folder = Two {
+        host,
+        config: BY_INES.as_bytes(),
+        script: b"",
+        fails_at: 0,
+    };
+    let line = format!(in alloc; "serve --socket m.sock{line}")?;
+    let texts = parted(alloc, line.as_str())?;
+    let words = words(alloc, texts.as_slice())?;
+    let mut output = Vec::new(alloc);
+    let mut errors = Vec::new(alloc);
+    let next = run_program(alloc, words.as_slice(), &folder, &mut output, &mut errors);
+    let Next::Serve(server) = &next else {
+        panic!(rt; "no server is asked for: {line}")
+    };
+    assert_eq!(rt; server.http, further.0, "{line}");
+    assert_eq!(rt; server.http_workers, further.1, "{line}");
+    assert_eq!(rt; server.features.number, further.2, "{line}");
+    assert_eq!(rt; (output.len(), errors.len()), (0, 0), "{line}");
+    Ok(())
+}
+
+#[test]
+fn http_and_features(rt: HostRuntime) -> Result<(), Fail> {
+    let here = SocketAddr::new(IpAddr::V4(Ipv4Addr::new(127, 0, 0, 1)), 8080);
+    let far = SocketAddr::new(IpAddr::V4(Ipv4Addr::new(127, 255, 0, 9)), 65_535);
+    let six = SocketAddr::new(IpAddr::V6(Ipv6Addr::new(0, 0, 0, 0, 0, 0, 0, 1)), 80);
+    let socket = HttpWord::Socket("h.sock");
+    let lines: [(&str, Further<'_>); 8] = [
+        ("", (None, None, 100_000)),
+        (" --http-workers 1", (None, Some(1), 100_000)),
+        (
+            " --http 127.0.0.1:8080",
+            (Some(HttpWord::Address(here)), None, 100_000),
+        ),
+        (
+            " --http=127.255.0.9:65535",
+            (Some(HttpWord::Address(far)), None, 100_000),
+        ),
+        (
+            " --http [::1]:80 --http-workers=1024",
+            (Some(HttpWord::Address(six)), Some(1_024), 100_000),
+        ),
+        (" --http-socket h.sock", (Some(socket), None, 100_000)),
+        (" --features 1 --connections 1", (None, None, 1)),
+        (
+            " --http-socket=h.sock --features=4000000 --until-stdin-ends",
+            (Some(socket), None, 4_000_000),
+        ),
+    ];
+    for (line, further) in lines {
+        asks_further(&rt, &rt, line, further)?;
+    }
+    Ok(())
+}
+
 #[test]
 fn a_configuration_of_its_own(rt: HostRuntime) -> Result<(), Fail> {
     let line = "serve --config a.json --socket m.sock --connections 7";
@@ -280,6 +408,11 @@ fn help_of_servers(rt: HostRuntime) -> Result<(), Fail> {
             "How long a client may be idle, 1 to 86400\n",
             "Takes over a socket that nobody listens on\n",
             "Accepts nobody once standard input ends\n",
+            "\n      --http <ADDRESS:PORT>\n          Also answers HTTP at this address of the machine\n",
+            "Also answers HTTP on this socket, for a proxy\n",
+            "How many of HTTP at a time, 1 to 1024 [default: 8]\n",
+            "The most features, 1 to 4000000 [default: 100000]\n",
+            "docs/HTTP.md tells what is answered",
             "\n  `landmap serve --socket map.sock` writes\n\n    listening map.sock\n",
             "\n  landmap serve --socket map.sock --connections 100\n    serves a hundred sessions, and ends\n",
             "\n     `landmap: cannot bind PATH`, `landmap: cannot start a worker`,\n",

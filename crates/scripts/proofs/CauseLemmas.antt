@@ -20,7 +20,7 @@ use Rattle.plain_world.specs.Admitting.{LAST, and_then, given, subject_at, may_r
 use Rattle.plain_world.specs.Answers.{AnswerData}
 use Rattle.plain_world.specs.Events.{Stage, Commit, Happens, Reply, Failed, Rows, Ended, Applies, CommitsAs, is_want, recorded, reply_of, without_transaction}
 use Rattle.plain_world.specs.Staging.{names, placements, staged_in, transaction_with}
-use Rattle.plain_world.specs.States.{WorldData}
+use Rattle.plain_world.specs.States.{WorldData, most_features}
 use Rattle.plain_world.proofs.AdmittedLemmas.{by_if, by_unless}
 use Rattle.tree_answers.specs.declared.answers.Step.{Step}
 use Rattle.tree_answers.specs.declared.answers.Visit.TheVariants as visits
@@ -111,7 +111,7 @@ stage_own seat number change old new reply h =
 
 applies_own : (seat number : ℕ) (subject : Subject) (changes : List Change) (old new : WorldData) (reply : Reply) → Applies seat number subject changes old new reply → Answered IsOwn reply
 applies_own seat number subject changes old new reply h =
-    last (old.state.version == LAST) (nat_lt old.limits.features (length (after (old.state.version + 1) subject.office changes old.state.features))) h
+    last (old.state.version == LAST) (nat_lt (most_features old) (length (after (old.state.version + 1) subject.office changes old.state.features))) h
   where
     Applied : Type 0
     Applied = (reply ≡ Ended (outcomes.Applied (old.state.version + 1))) × (new ≡ without_transaction number (recorded seat (applied subject (old.state.version + 1) changes) old))

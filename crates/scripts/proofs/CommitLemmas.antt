@@ -24,7 +24,7 @@ use Rattle.plain_world.specs.Admitting.{LAST, and_then, given, transaction_owned
 use Rattle.plain_world.specs.Answers.{denial_of}
 use Rattle.plain_world.specs.Events.{Begin, Stage, AdvanceWalk, Commit, Abort, Happens, Reply, Number, Done, Advanced, Ended, Failed, UnlessMemory, NoReadySeeks, Walks, Advances, Applies, CommitsAs, Commits as CommitsEvent, is_memory, is_want, recorded, reply_of, without_transaction}
 use Rattle.plain_world.specs.Staging.{TransactionData, placements, with_step, staged, one_placed, ended, names}
-use Rattle.plain_world.specs.States.{WorldData}
+use Rattle.plain_world.specs.States.{WorldData, most_features}
 use Rattle.scripts.specs.Services.{Brings, CommitsCall, EndsCallAs, HoldsList, NoReadySeeksAny, holder, is_full, is_unplaced, may_conclude}
 use Rattle.scripts.specs.States.{IsAtRest, begun}
 use Rattle.scripts.specs.UnderWay.{Concludes, ConcludesAll, IsStuck, NoReadySeeksFirst, Stands, closed, under}
@@ -199,7 +199,7 @@ module _ (number seat : ℕ) (w : WorldData) (subject : Subject) (seated : subje
   abbrev pub EndsSo : List Change → ℕ → Judgement → WorldData → Reply → Type 0
   EndsSo changes placed judgements.Accepted new reply =
       MatchBool (w.state.version == LAST) ((reply ≡ Failed faults.Spent) × (new ≡ under number seat changes placed w))
-      (MatchBool (nat_lt w.limits.features (length (after version subject.office changes w.state.features))) ((reply ≡ Failed faults.StoreFull) × (new ≡ under number seat changes placed w))
+      (MatchBool (nat_lt (most_features w) (length (after version subject.office changes w.state.features))) ((reply ≡ Failed faults.StoreFull) × (new ≡ under number seat changes placed w))
       ((reply ≡ Ended (outcomes.Applied version)) × (new ≡ closed (recorded seat (applied subject version changes) w))))
   EndsSo changes placed (judgements.Refused refusal question) new reply =
       (reply ≡ Ended (outcomes.Refused refusal (denial_of w.state.decider refusal.cause question)))
@@ -219,7 +219,7 @@ module _ (number seat : ℕ) (w : WorldData) (subject : Subject) (seated : subje
     left_of deed = ap (λ (ts : List TransactionData). record (recorded seat deed w) { transactions = ts }) (gone changes placed)
 
     applies : (reply : Reply) → Applies seat number subject changes there new reply → EndsSo changes placed judgements.Accepted new reply
-    applies reply d = go (w.state.version == LAST) (nat_lt w.limits.features (length (after version subject.office changes w.state.features))) d
+    applies reply d = go (w.state.version == LAST) (nat_lt (most_features w) (length (after version subject.office changes w.state.features))) d
       where
         go : (last over : Bool) → MatchBool last ((new ≡ there) × (reply ≡ Failed faults.Spent)) (MatchBool over ((new ≡ there) × (reply ≡ Failed faults.StoreFull))
             ((reply ≡ Ended (outcomes.Applied version)) × (new ≡ without_transaction number (recorded seat (applied subject version changes) there))))
@@ -399,9 +399,9 @@ module _ (seat : ℕ) (changes : List Change) (old mid : WorldData) (number : �
           → (stopped ≡ under number seat changes placed (begun old) → new ≡ begun (closed old))
           → IsAtRest new × Does new (Failed fault) started.subject
       refused_so fault placed judgements.Accepted room none accepted d last_of =
-          decide (old.state.version == LAST) (nat_lt old.limits.features (length (after (old.state.version + 1) started.subject.office changes old.state.features))) refl refl d
+          decide (old.state.version == LAST) (nat_lt (most_features old) (length (after (old.state.version + 1) started.subject.office changes old.state.features))) refl refl d
         where
-          decide : (last over : Bool) → (old.state.version == LAST) ≡ last → nat_lt old.limits.features (length (after (old.state.version + 1) started.subject.office changes old.state.features)) ≡ over
+          decide : (last over : Bool) → (old.state.version == LAST) ≡ last → nat_lt (most_features old) (length (after (old.state.version + 1) started.subject.office changes old.state.features)) ≡ over
               → MatchBool last ((Failed fault ≡ Failed faults.Spent) × (stopped ≡ under number seat changes placed (begun old)))
               (MatchBool over ((Failed fault ≡ Failed faults.StoreFull) × (stopped ≡ under number seat changes placed (begun old)))
               ((Failed fault ≡ Ended (outcomes.Applied (old.state.version + 1))) × (stopped ≡ closed (recorded seat (applied started.subject (old.state.version + 1) changes) (begun old)))))
@@ -410,7 +410,7 @@ module _ (seat : ℕ) (changes : List Change) (old mid : WorldData) (number : �
               let left = last_of d.1 in (
                 is_rest (begun old) new still.searches left,
                 subst (λ (r : Reply). Does new r started.subject) (sym d.0)
-                    (judged new (Failed faults.Spent) room none (judgements.Accepted, accepted, subst (λ (b : Bool). AppliesSo b (nat_lt old.limits.features (length (after (old.state.version + 1) started.subject.office changes old.state.features))) (Failed faults.Spent)) (sym e) (refl, left))),
+                    (judged new (Failed faults.Spent) room none (judgements.Accepted, accepted, subst (λ (b : Bool). AppliesSo b (nat_lt (most_features old) (length (after (old.state.version + 1) started.subject.office changes old.state.features))) (Failed faults.Spent)) (sym e) (refl, left))),
               )
           decide false true e f d =
               let left = last_of d.1 in (
@@ -419,7 +419,7 @@ module _ (seat : ℕ) (changes : List Change) (old mid : WorldData) (number : �
                     (judged new (Failed faults.StoreFull) room none (
                       judgements.Accepted,
                       accepted,
-                      subst (λ (b : Bool). AppliesSo b (nat_lt old.limits.features (length (after (old.state.version + 1) started.subject.office changes old.state.features))) (Failed faults.StoreFull)) (sym e) (subst (λ (b : Bool). AppliesSo false b (Failed faults.StoreFull)) (sym f) (refl, left)),
+                      subst (λ (b : Bool). AppliesSo b (nat_lt (most_features old) (length (after (old.state.version + 1) started.subject.office changes old.state.features))) (Failed faults.StoreFull)) (sym e) (subst (λ (b : Bool). AppliesSo false b (Failed faults.StoreFull)) (sym f) (refl, left)),
                     )),
               )
           decide false false e f d = (let wrong = d.0 in absurd cc)
@@ -455,7 +455,7 @@ module _ (seat : ℕ) (changes : List Change) (old mid : WorldData) (number : �
       ends : (placed : ℕ) (judgement : Judgement) → EndsSo number seat (begun old) started.subject started.seated changes placed judgement new (Ended outcome)
           → IsAtRest new × EndsCallAs judgement seat started.subject changes (closed old) new (Ended outcome)
       ends placed judgements.Accepted d =
-          decide (old.state.version == LAST) (nat_lt old.limits.features (length (after (old.state.version + 1) started.subject.office changes old.state.features))) d
+          decide (old.state.version == LAST) (nat_lt (most_features old) (length (after (old.state.version + 1) started.subject.office changes old.state.features))) d
         where
           decide : (last over : Bool)
               → MatchBool last ((Ended outcome ≡ Failed faults.Spent) × (new ≡ under number seat changes placed (begun old)))

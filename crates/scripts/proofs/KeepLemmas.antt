@@ -16,7 +16,7 @@ use Rattle.plain_world.specs.declared.open_searches.Search.{Search}
 use Rattle.plain_world.specs.Admitting.{LAST, may_govern, may_roll, may_sit}
 use Rattle.plain_world.specs.Events.{TakeSeat, Govern as GovernEvent, Roll as RollEvent, Happens, Reply as EventReply, Number, Rows, Ended, TakenOut, Failed, is_memory, recorded, reply_of}
 use Rattle.plain_world.specs.Laws.{AreGiven}
-use Rattle.plain_world.specs.States.{WorldData}
+use Rattle.plain_world.specs.States.{WorldData, most_features}
 use Rattle.plain_world.proofs.AdmittedLemmas.{by_if, by_unless}
 use Rattle.session_lines.specs.declared.faults.LineFault.TheVariants.{BeforeHello}
 use Rattle.session_lines.specs.declared.replies.Reply.TheVariants.{Error}
@@ -88,7 +88,7 @@ commits_leave seat changes old new reply h =
 
     ends : (subject : Subject) (judgement : Judgement) → EndsCallAs judgement seat subject changes old new reply → Leaves old new
     ends subject judgements.Accepted d =
-        applies subject (old.state.version == LAST) (nat_lt old.limits.features (length (after (old.state.version + 1) subject.office changes old.state.features))) d
+        applies subject (old.state.version == LAST) (nat_lt (most_features old) (length (after (old.state.version + 1) subject.office changes old.state.features))) d
     ends subject (judgements.Refused refusal question) d = leaves_as old new _ d.1 refl refl
 
     Judges : Subject → Type 0

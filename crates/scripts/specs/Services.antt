@@ -25,7 +25,7 @@ use Rattle.plain_world.specs.Answers.{AnswerData, denial_of}
 use Rattle.plain_world.specs.Events.{Reply as EventReply, Number, Rows, Ended, TakenOut, Failed, TakeSeat, Govern as GovernEvent, Roll as RollEvent, Happens, HoldsBack, NoReadySeeks, If, is_memory, recorded, reply_of}
 use Rattle.plain_world.specs.Rolls.{RolledData}
 use Rattle.plain_world.specs.Staging.{placements}
-use Rattle.plain_world.specs.States.{WorldData}
+use Rattle.plain_world.specs.States.{WorldData, most_features}
 use Rattle.session_lines.specs.declared.faults.LineFault.TheVariants.{BeforeHello}
 use Rattle.session_lines.specs.declared.replies.Reply.TheVariants.{Hello as Greets, Edition, Bye, Error}
 use Rattle.session_lines.specs.Replies.{SaidData, line, rows, rolled, told, outcome_reply, ruling_reply}
@@ -95,7 +95,7 @@ abbrev pub AppliesAll : ℕ → Subject → List Change → WorldData → WorldD
 AppliesAll seat subject changes old new reply =
     let version = old.state.version + 1 in
     MatchBool (old.state.version == LAST) ((reply ≡ Failed faults.Spent) × (new ≡ begun old))
-    (MatchBool (nat_lt old.limits.features
+    (MatchBool (nat_lt (most_features old)
     (length (after version subject.office changes old.state.features)))
     ((reply ≡ Failed faults.StoreFull) × (new ≡ begun old))
     ((reply ≡ Ended (outcomes.Applied version))

@@ -48,6 +48,6 @@ pub fn limits_in_numbers()
     ensures transactions { TRANSACTION_LIMIT ≡ 64 }
     ensures changes { CHANGE_LIMIT ≡ 16 }
     ensures steps { STEP_LIMIT ≡ 1000000 }
-    ensures rolled { ROLLED_LIMIT ≡ 4293918719 }
-    ensures first { FIRST_LIMIT ≡ 4293918720 }
+    ensures rolled { ROLLED_LIMIT ≡ 4611686018427387903 }
+    ensures first { FIRST_LIMIT ≡ 4611686018427387904 }
 {}

@@ -19,7 +19,7 @@ use Rattle.decision.proofs.CrossingLemmas.{shared_decider_send}
 use Rattle.plain_world.specs.contracts.worlds.Base as Base
 use Rattle.plain_world.specs.contracts.worlds.Base.TheInside as base_inside
 use Rattle.chronicle.proofs.CrossingLemmas.{heap_record_send, heap_record_sync}
-use Rattle.server.specs.contracts.keeping.Lasting as lasting
+use Rattle.hall_workers.specs.contracts.lasting.Lasting as lasting
 use Rattle.server.specs.contracts.kept.Handover as handover
 
 -- where replies wait
@@ -51,3 +51,7 @@ over_five_send name A B C D E a b c d e = search sendable depth 14
 pub over_seven_send : (name : Sym) (A B C D E F G : RattleType) → IsSend A → IsSend B → IsSend C → IsSend D → IsSend E → IsSend F → IsSend G
     → IsSend (TupleAt name (A ∷ B ∷ C ∷ D ∷ E ∷ F ∷ G ∷ []))
 over_seven_send name A B C D E F G a b c d e f g = search sendable depth 16
+
+pub over_eight_send : (name : Sym) (A B C D E F G H : RattleType) → IsSend A → IsSend B → IsSend C → IsSend D → IsSend E → IsSend F → IsSend G → IsSend H
+    → IsSend (TupleAt name (A ∷ B ∷ C ∷ D ∷ E ∷ F ∷ G ∷ H ∷ []))
+over_eight_send name A B C D E F G H a b c d e f g h = search sendable depth 18

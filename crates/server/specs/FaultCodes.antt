@@ -15,6 +15,7 @@ store_code stores.Memory = codes "H6"
 
 abbrev pub server_code : ServerFault → List ℕ
 server_code faults.Bind = codes "cannot bind"
+server_code faults.BindWeb = codes "cannot bind"
 server_code (faults.Write failed) = codes "cannot write"
 server_code (faults.Channel refused) = codes "H6"
 server_code faults.NoWorker = codes "cannot start a worker"

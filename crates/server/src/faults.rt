@@ -26,6 +26,8 @@ impl NoMemoryForChannel {
 pub enum ServerFault {
     /// The path was not bound.
     Bind,
+    /// The place for HTTP was not bound.
+    BindWeb,
     /// The line `listening PATH` was not written.
     Write(WriteFailed),
     /// H6: there is no memory for a channel: the one for streams that wait for a worker, or the one
@@ -52,7 +54,7 @@ impl ServerFault {
         ensures { result.now ≡ server_code self.now }
     {
         match self {
-            ServerFault::Bind => "cannot bind",
+            ServerFault::Bind | ServerFault::BindWeb => "cannot bind",
             ServerFault::Write(_) => "cannot write",
             ServerFault::Channel(_) => "H6",
             ServerFault::NoWorker => "cannot start a worker",

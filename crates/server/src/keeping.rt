@@ -1,4 +1,4 @@
-//! What a server with a store goes on from, and how its replies wait for the store.
+//! What a server with a store goes on from, and what keeps its records.
 
 ghost use Rattle.std.specs.Prelude.{◌≡◌, ◌<◌, ◌≤◌, length, IfSome};
 ghost use Rattle.features.specs.Rows.{IsSortedById};
@@ -9,12 +9,9 @@ ghost use Rattle.server.specs.Rising.{sorted_prop};
 use crate::kept::Handover;
 use audit_trail::Record;
 use feature_store::FEATURE_LIMIT;
-use group_commit::{Barrier, Desk, Rests, Source};
-use hall::{Hall, HallName};
 use log::Log;
 use policy_documents::Document;
 use std::alloc::Global;
-use std::io::Write;
 use std::sync::{Arc, Wait};
 use std::time::Clock;
 use world::{Base, ROLLED_LIMIT};
@@ -33,7 +30,7 @@ pub enum Begins {
 #[derive(Debug, Drop)]
 pub struct Restored {
     base: Base<Global>,
-    rolled: u32,
+    rolled: u64,
     pub ghost sorted: { IsSortedById base.features } by { sorted_prop _ },
     pub ghost few: { length base.features ≤ FEATURE_LIMIT },
     pub ghost edition: { 0 < base.decider.edition },
@@ -43,7 +40,7 @@ pub struct Restored {
 impl Restored {
     /// The state, behind so many records. `None` where there are more features than a world may
     /// have, no edition, or no number for a further record.
-    pub fn new(base: Base<Global>, rolled: u32) -> Option<Self>
+    pub fn new(base: Base<Global>, rolled: u64) -> Option<Self>
         requires { IsSortedById base.features }
         ensures { IfSome result (λ restored. restored.base ≡ base) }
     {
@@ -55,12 +52,12 @@ impl Restored {
     }
 
     /// How many records are before it.
-    pub(crate) fn rolled(&self) -> u32 {
+    pub(crate) fn rolled(&self) -> u64 {
         self.rolled
     }
 
     /// The state, and how many records are before it.
-    pub(crate) fn into_parts(self) -> (Base<Global>, u32)
+    pub(crate) fn into_parts(self) -> (Base<Global>, u64)
         ensures base { result.0 ≡ self.base }
         ensures sorted { IsSortedById result.0.features }
         ensures few { length result.0.features ≤ FEATURE_LIMIT }
@@ -133,88 +130,4 @@ pub trait Keeps {
     /// What is done once it takes nothing more, behind the moment from which no reply leaves: a
     /// program ends.
     fn give_up(&self, fault: StoreFault);
-}
-
-/// Where replies wait, and for what.
-#[derive(Clone, Copy, Drop)]
-pub(crate) struct Lasting<'a> {
-    pub(crate) desk: &'a Desk<Arc<Record<Global>>>,
-    pub(crate) rests: Rests,
-    /// How many records the desk had from the halls before the present one.
-    pub(crate) before: u64,
-}
-
-impl Lasting<'_> {
-    /// Takes over the records that nobody waits for.
-    pub(crate) fn take_over<L: HallName, H: Wait + Drop, R: Wait>(
-        &self,
-        rt: &R,
-        hall: &Hall<L, H, Global>,
-    ) {
-        self.desk
-            .take_over(rt, &HallRecords::of(rt, hall, Some(*self)));
-    }
-
-    /// Waits until all records last, or the desk has failed.
-    pub(crate) fn finish<L: HallName, H: Wait + Drop, R: Wait>(
-        &self,
-        rt: &R,
-        hall: &Hall<L, H, Global>,
-    ) {
-        let records = HallRecords::of(rt, hall, Some(*self));
-        let _ = self.desk.wait_for(rt, &records, records.count());
-    }
-}
-
-/// The records of a hall, behind those of the halls before it.
-#[derive(Drop)]
-pub(crate) struct HallRecords<'a, L: HallName, H: Wait + Drop, R: Wait> {
-    rt: &'a R,
-    hall: &'a Hall<L, H, Global>,
-    before: u64,
-}
-
-impl<'a, L: HallName, H: Wait + Drop, R: Wait> HallRecords<'a, L, H, R> {
-    /// The records of a hall, as the desk counts them.
-    pub(crate) fn of(
-        rt: &'a R,
-        hall: &'a Hall<L, H, Global>,
-        lasting: Option<Lasting<'_>>,
-    ) -> Self {
-        let before = match lasting {
-            Some(lasting) => lasting.before,
-            None => 0,
-        };
-        HallRecords { rt, hall, before }
-    }
-}
-
-impl<L: HallName, H: Wait + Drop, R: Wait> Source<Arc<Record<Global>>>
-    for HallRecords<'_, L, H, R> {
-    fn count(&self) -> u64 {
-        self.before.saturating_add(self.hall.record_count(self.rt))
-    }
-
-    fn changed(&self) -> u64 {
-        self.before.saturating_add(self.hall.last_change(self.rt))
-    }
-
-    fn copy_from(&self, place: u64, into: &mut Vec<Arc<Record<Global>>>) {
-        // What is left out, since a record has as many owners as there may be, comes the next time.
-        let place = place.saturating_sub(self.before);
-        let _ = self.hall.records_from(self.rt, place, into);
-    }
-}
-
-/// A session's writer: with a desk, one that waits there.
-pub(crate) fn barrier<'a, L: HallName, H: Wait + Drop, R: Wait, O: Write + Drop>(
-    rt: &'a R,
-    records: &'a HallRecords<'a, L, H, R>,
-    lasting: Option<Lasting<'a>>,
-    writer: O,
-) -> Barrier<'a, Arc<Record<Global>>, HallRecords<'a, L, H, R>, R, O> {
-    match lasting {
-        Some(Lasting { desk, rests, .. }) => Barrier::new(rt, Some(desk), records, rests, writer),
-        None => Barrier::new(rt, None, records, Rests::All, writer),
-    }
 }

@@ -5,7 +5,7 @@ ghost use Rattle.std.specs.Thread.{IsSend, IsSync};
 ghost use Rattle.server.specs.Relays.{ServedFrom};
 
 use crate::faults::ServerFault;
-use crate::keeping::{AppendFault, Begins, Keeps, Lasting, Restored, StoreFault, Writes};
+use crate::keeping::{AppendFault, Begins, Keeps, Restored, StoreFault, Writes};
 use crate::sockets::{SocketOptions, serve_bound};
 use crate::streams::{Serving, channel};
 use audit_trail::Record;
@@ -13,15 +13,17 @@ use crossbeam_channel::Sender;
 use features::Subjects;
 use group_commit::{Desk, Rests};
 use hall::Closed;
+use hall_workers::Lasting;
 use log::{Log, warn};
 use std::alloc::Global;
 use std::fs::{File, Files};
 use std::io::Print;
-use std::net::Net;
+use std::net::{Net, TcpListener, TcpStream};
 use std::sync::{Arc, Wait};
 use std::thread;
 use std::thread::Threads;
 use std::time::{Clock, Duration};
+use world::FeatureLimit;
 
 /// The pause, in seconds, behind records that the store does not take for now.
 const PAUSE: u64 = 1;
@@ -36,6 +38,8 @@ pub struct Keeping {
     pub subjects: Subjects,
     /// How many sessions are served side by side, as in `Serving`.
     pub workers: usize,
+    /// The most features that there may be after an addition, as in `Serving`.
+    pub features: FeatureLimit,
     /// For which records a reply waits.
     pub rests: Rests,
 }
@@ -152,7 +156,14 @@ pub fn serve_kept<H, R, K>(
 ) -> Result<Closed, ServerFault>
 where
     H: Wait + Copy + Drop + Send,
-    R: Threads + Wait + Clock + Log + Files<File = File> + Net + Print + Sync,
+    R: Threads
+        + Wait
+        + Clock
+        + Log
+        + Files<File = File>
+        + Net<Stream = TcpStream, Listener = TcpListener>
+        + Print
+        + Sync,
     K: Writes + Drop + Send,
     ensures { IfOk result (ServedFrom options.entry.connections keeping.subjects) }
 {
@@ -161,6 +172,7 @@ where
     let Keeping {
         subjects,
         workers,
+        features,
         rests,
     } = keeping;
     let lasting = Lasting {
@@ -193,6 +205,7 @@ where
                 subjects,
                 begins: Begins::State(restored),
                 workers,
+                features,
             };
             let served = serve_bound(rt, own, heap, path, serving, options, Some(lasting));
             lasting.desk.end(rt);

@@ -6,19 +6,21 @@ ghost use Rattle.server.specs.Relays.{IsRelayed, ServedAs};
 ghost use Rattle.server.specs.Served.{IsServed, opening_of};
 
 use crate::faults::ServerFault;
-use crate::keeping::Lasting;
-use crate::listening::{Bound, listen, tell_ready};
-use crate::socket_files::remove_own;
-use crate::stopping::Stop;
+use crate::ready::tell_ready;
 use crate::streams::{QUEUE, Serving, WORKER_LIMIT, channel, serve_lasting};
 use crate::terms::{Relay, serve_relay};
+use crate::webs::{WEB_QUEUE, Web, WebRoom, accept_web, wake};
 use crossbeam_channel::Sender;
 use hall::{Closed, NoPause};
+use hall_workers::Lasting;
+use listeners::{
+    Bound, SocketFile, Stop, WebListener, WebStream, listen, listen_web, remove_own, remove_web,
+};
 use log::{Log, warn};
 use std::alloc::Global;
 use std::fs::{File, Files};
 use std::io::Print;
-use std::net::Net;
+use std::net::{Net, TcpListener, TcpStream};
 use std::os::unix::net::{UnixListener, UnixStream};
 use std::sync::Wait;
 use std::thread::Threads;
@@ -55,6 +57,8 @@ pub struct SocketOptions<'a> {
     pub takeover: bool,
     /// How the server is told to accept no more connections, as `watch` tells it.
     pub stop: Option<&'a Stop>,
+    /// How HTTP is answered beside the socket, if it is. A server of so many connections answers none.
+    pub web: Option<&'a Web<'a>>,
 }
 
 /// Accepts connections, and stops listening after the last one.
@@ -194,31 +198,41 @@ fn accept_all<R: Wait + Clock + Log>(
 }
 
 /// Serves connections without end: until the server is told to accept no more and all sessions have
-/// ended. A hall gives way after so many records.
+/// ended. A hall gives way after so many records. Beside them HTTP is answered, if it is wanted.
 fn serve_until<H, R>(
     rt: &R,
     own: H,
     heap: Global,
     path: &str,
     serving: Serving,
-    idle: Option<u64>,
+    options: SocketOptions<'_>,
     records: u64,
     lasting: Option<Lasting<'_>>,
     listener: UnixListener,
+    web_listener: Option<WebListener>,
     stop: &Stop,
 ) -> Result<Closed, ServerFault>
 where
     H: Wait + Copy + Drop + Send,
-    R: Threads + Wait + Clock + Log + Files<File = File> + Net + Sync,
+    R: Threads
+        + Wait
+        + Clock
+        + Log
+        + Files<File = File>
+        + Net<Stream = TcpStream, Listener = TcpListener>
+        + Sync,
     ensures { IfOk result (IsRelayed (opening_of serving.subjects serving.begins)) }
 {
     let (to, from) = channel::<UnixStream>(heap, QUEUE)?;
+    let (web_to, web_from) = channel::<WebStream>(heap, WEB_QUEUE)?;
+    let room = WebRoom::new(heap, options.web)?;
+    let room = &room;
     let Serving {
         subjects,
         begins,
         workers,
+        features,
     } = serving;
-    let workers = workers.clamp(1, WORKER_LIMIT);
     let served = thread::scope(
         thread::scope_env(),
         rt,
@@ -227,6 +241,14 @@ where
             requires handle { IsSend H.row }
             ensures { IfOk result (IsRelayed (opening_of subjects begins)) }
         {
+            if let Some(listener) = web_listener {
+                if scope
+                    .spawn(move || accept_web(rt, listener, stop, web_to))
+                    .is_err()
+                {
+                    return Err(ServerFault::NoWorker);
+                }
+            }
             if scope
                 .spawn(move || accept_all(rt, listener, stop, to))
                 .is_err()
@@ -234,18 +256,24 @@ where
                 return Err(ServerFault::NoWorker);
             }
             let arrivals = from;
+            let web_arrivals = web_from;
+            let reception = room.reception(&web_arrivals);
             let relay = Relay {
                 heap,
                 workers,
+                features,
                 lasting,
                 arrivals: &arrivals,
-                idle,
+                idle: options.idle,
                 records,
+                reception: reception.as_ref(),
             };
             let served = serve_relay(rt, own, relay, subjects, begins);
             // This ends the accepting.
             drop(arrivals);
+            drop(web_arrivals);
             stop.wake(rt, path);
+            wake(rt, options.web);
             served
         },
     );
@@ -253,7 +281,32 @@ where
     Ok(closed)
 }
 
-/// Writes the line `listening PATH`, and serves the connections that come.
+/// Notes the socket on which the server listens from now on.
+fn note(stop: Option<&Stop>, file: SocketFile) {
+    if let Some(stop) = stop {
+        stop.listens_on(file);
+    }
+}
+
+/// Listens for connections of HTTP, if they are wanted. `BindWeb` where that fails.
+fn listened_web<R>(
+    rt: &R,
+    web: Option<&Web<'_>>,
+    takeover: bool,
+) -> Result<Option<WebListener>, ServerFault>
+where
+    R: Files<File = File> + Net<Stream = TcpStream, Listener = TcpListener> + Clock,
+{
+    let Some(web) = web else {
+        return Ok(None);
+    };
+    match listen_web(rt, web.place, takeover) {
+        Some(listener) => Ok(Some(listener)),
+        None => Err(ServerFault::BindWeb),
+    }
+}
+
+/// Writes that the server listens, and serves the connections that come.
 fn serve_listener<H, R>(
     rt: &R,
     own: H,
@@ -266,36 +319,64 @@ fn serve_listener<H, R>(
 ) -> Result<Closed, ServerFault>
 where
     H: Wait + Copy + Drop + Send,
-    R: Threads + Wait + Clock + Log + Files<File = File> + Net + Print + Sync,
+    R: Threads
+        + Wait
+        + Clock
+        + Log
+        + Files<File = File>
+        + Net<Stream = TcpStream, Listener = TcpListener>
+        + Print
+        + Sync,
     ensures { IfOk result
         (ServedAs options.entry.connections (opening_of serving.subjects serving.begins)) }
 {
-    tell_ready(rt, heap, path)?;
-    if let Some(stop) = options.stop {
-        stop.listens_on(bound.file);
-    }
-    let listener = bound.listener;
+    let Bound { listener, file } = bound;
     match options.connections {
-        Connections::UpTo(connections) => serve_some(
-            rt,
-            own,
-            heap,
-            serving,
-            options,
-            connections,
-            lasting,
-            listener,
-        ),
-        Connections::Endless(records) => {
-            let own_stop = Stop::new();
-            let stop = match options.stop {
-                Some(stop) => stop,
-                None => &own_stop,
-            };
-            let idle = options.idle;
-            serve_until(
-                rt, own, heap, path, serving, idle, records, lasting, listener, stop,
+        Connections::UpTo(connections) => {
+            tell_ready(rt, heap, path, None)?;
+            note(options.stop, file);
+            serve_some(
+                rt,
+                own,
+                heap,
+                serving,
+                options,
+                connections,
+                lasting,
+                listener,
             )
+        }
+        Connections::Endless(records) => {
+            let web_listener = listened_web(rt, options.web, options.takeover)?;
+            let place = match options.web {
+                Some(web) => Some(web.place),
+                None => None,
+            };
+            tell_ready(rt, heap, path, place)?;
+            note(options.stop, file);
+            let web_file = match &web_listener {
+                Some(listener) => listener.file(),
+                None => None,
+            };
+            let own_stop = Stop::new();
+            let stop = options.stop.unwrap_or(&own_stop);
+            let served = serve_until(
+                rt,
+                own,
+                heap,
+                path,
+                serving,
+                options,
+                records,
+                lasting,
+                listener,
+                web_listener,
+                stop,
+            );
+            if let Some(web) = options.web {
+                remove_web(rt, web.place, web_file);
+            }
+            served
         }
     }
 }
@@ -313,11 +394,20 @@ pub(crate) fn serve_bound<H, R>(
 ) -> Result<Closed, ServerFault>
 where
     H: Wait + Copy + Drop + Send,
-    R: Threads + Wait + Clock + Log + Files<File = File> + Net + Print + Sync,
+    R: Threads
+        + Wait
+        + Clock
+        + Log
+        + Files<File = File>
+        + Net<Stream = TcpStream, Listener = TcpListener>
+        + Print
+        + Sync,
     ensures { IfOk result
         (ServedAs options.entry.connections (opening_of serving.subjects serving.begins)) }
 {
-    let bound = listen(rt, path, options.takeover)?;
+    let Some(bound) = listen(rt, path, options.takeover) else {
+        return Err(ServerFault::Bind);
+    };
     let file = bound.file;
     let served = serve_listener(rt, own, heap, path, serving, options, lasting, bound);
     remove_own(rt, path, file);
@@ -325,8 +415,9 @@ where
 }
 
 /// Binds a Unix socket, writes the line `listening PATH` to standard output, serves the connections
-/// that come, and removes the path, unless another server has replaced its socket. Faults: `Bind`
-/// where the path is not bound; `Write` where the line is not written, and H6 where there is no
+/// that come, and removes the path, unless another server has replaced its socket. Where HTTP is
+/// wanted, a line `listening` with its place follows. Faults: `Bind` where the path is not bound, and
+/// `BindWeb` where the place for HTTP is not; `Write` where the line is not written, and H6 where there is no
 /// memory for its buffer; then those of `serve_streams`. The path is removed after each fault but
 /// `Bind`.
 pub fn serve_socket<H, R>(
@@ -339,7 +430,14 @@ pub fn serve_socket<H, R>(
 ) -> Result<Closed, ServerFault>
 where
     H: Wait + Copy + Drop + Send,
-    R: Threads + Wait + Clock + Log + Files<File = File> + Net + Print + Sync,
+    R: Threads
+        + Wait
+        + Clock
+        + Log
+        + Files<File = File>
+        + Net<Stream = TcpStream, Listener = TcpListener>
+        + Print
+        + Sync,
     ensures { IfOk result
         (ServedAs options.entry.connections (opening_of serving.subjects serving.begins)) }
 {

@@ -6,12 +6,11 @@ ghost use Rattle.std.specs.Thread.{IsSend, IsSync};
 ghost use Rattle.server.specs.Served.{IsServed, opening_of};
 
 use crate::faults::{NoMemoryForChannel, ServerFault};
-use crate::keeping::{Begins, Lasting};
-use crate::turns::Turn;
-use crate::workers::{Connection, tend, work};
+use crate::keeping::Begins;
 use crossbeam_channel::{Receiver, SendError, Sender, bounded};
 use features::Subjects;
 use hall::{Closed, Hall, HallName, LEDGER_PARTS, Pause, Seat, Unnamed, VIEW_LIMIT, View};
+use hall_workers::{Connection, Lasting, Reception, Turn, receive, tend, work};
 use log::{Log, warn};
 use memory::{GrowVec, vec_with_slots};
 use plain_world::SEAT_LIMIT;
@@ -22,7 +21,7 @@ use std::sync::{Mutex, Wait};
 use std::thread;
 use std::thread::Threads;
 use std::time::Clock;
-use world::Limits;
+use world::FeatureLimit;
 
 /// The number of workers, if no other is asked for.
 pub const WORKER_COUNT: usize = 4;
@@ -43,6 +42,9 @@ pub struct Serving {
     /// How many sessions are served side by side, from 1 to `WORKER_LIMIT`; any other number is
     /// taken as the nearest of these.
     pub workers: usize,
+    /// The most features that there may be after an addition. A state with more is served, and no
+    /// feature is added to it.
+    pub features: FeatureLimit,
 }
 
 /// A channel with room for this many messages.
@@ -147,8 +149,9 @@ where
 }
 
 /// Serves what comes in by workers, one for each view, beside one thread that tends the index and
-/// looks after the turn. Returns the seats of all sessions; `NoWorker` where none of the workers could
-/// be started.
+/// looks after the turn, and, if there is a turn, beside those that answer by HTTP, one for each view
+/// of theirs. Returns the seats of all sessions; `NoWorker` where none of the workers could be
+/// started.
 pub(crate) fn serve_tended<'h, L: HallName + Send + Sync, H, R, T, S>(
     rt: &R,
     heap: Global,
@@ -156,6 +159,7 @@ pub(crate) fn serve_tended<'h, L: HallName + Send + Sync, H, R, T, S>(
     views: Vec<View<L>>,
     lasting: Option<Lasting<'_>>,
     turn: Option<&Turn>,
+    web: Option<(&Reception<'_>, Vec<View<L>>)>,
     incoming: S,
 ) -> Result<Vec<Seat<'h, L, H, Global>>, ServerFault>
 where
@@ -188,8 +192,22 @@ where
             {
                 warn!(rt; target: "landmap", "the index is not tended");
             }
+            if let (Some(turn), Some((reception, views))) = (turn, web) {
+                for view in views {
+                    let receives = move || receive(
+                        rt, heap, hall, seats, reception, turn, view, lasting,
+                    );
+                    if scope.spawn(receives).is_err() {
+                        warn!(rt; target: "landmap", "a worker for HTTP could not be started");
+                        break;
+                    }
+                }
+            }
             let served = serve_all(rt, heap, hall, seats, views, lasting, connections, incoming);
-            // This ends the tending.
+            // This ends the answering by HTTP, and the tending.
+            if let Some(turn) = turn {
+                turn.end();
+            }
             drop(stop);
             served
         },
@@ -221,7 +239,7 @@ where
     ensures { IfOk result (IsServed L.opening) }
 {
     let views = views_of(rt, heap, hall, workers)?;
-    let seats = serve_tended(rt, heap, hall, views, lasting, None, incoming)?;
+    let seats = serve_tended(rt, heap, hall, views, lasting, None, None, incoming)?;
     if let Some(lasting) = lasting {
         lasting.finish(rt, hall);
     }
@@ -231,7 +249,7 @@ where
     }
 }
 
-/// A hall of the name `L`, with a view for each worker.
+/// A hall of the name `L`, with a view for each worker, within this limit of features.
 pub(crate) fn opened<L: HallName, H: Wait + Drop>(
     own: H,
     heap: Global,
@@ -239,22 +257,25 @@ pub(crate) fn opened<L: HallName, H: Wait + Drop>(
     subjects: Subjects,
     begins: Begins,
     workers: usize,
+    features: FeatureLimit,
 ) -> Result<Hall<L, H, Global>, ServerFault>
     requires name { unnamed.ledger.name ≡ L.name }
     requires parts { (unnamed.ledger.parts ≡ L.parts) × (L.parts ≡ LEDGER_PARTS) }
     requires list { unnamed.list ≡ L.book }
     requires opening { L.opening ≡ opening_of subjects begins }
 {
+    let limits = features.limits();
     match begins {
         Begins::Document(document) => {
-            match Hall::open(own, heap, heap, unnamed, subjects, document, workers) {
+            match Hall::open_within(
+                own, heap, heap, unnamed, subjects, document, workers, limits,
+            ) {
                 Ok(hall) => Ok(hall),
                 Err((_document, fault)) => Err(ServerFault::Open(fault)),
             }
         }
         Begins::State(restored) => {
             let (base, rolled) = restored.into_parts();
-            let limits = Limits::GREATEST;
             match Hall::open_from(
                 own, heap, heap, unnamed, subjects, base, rolled, workers, limits,
             ) {
@@ -294,9 +315,10 @@ where
         subjects,
         begins,
         workers,
+        features,
     } = serving;
     let workers = workers.clamp(1, WORKER_LIMIT);
-    let hall = opened::<L, H>(own, heap, unnamed, subjects, begins, workers)?;
+    let hall = opened::<L, H>(own, heap, unnamed, subjects, begins, workers, features)?;
     serve_open(rt, heap, &hall, workers, lasting, incoming)
 }
 

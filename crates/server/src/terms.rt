@@ -7,13 +7,12 @@ ghost use Rattle.server.specs.Relays.{Follows, IsRelayed, IsTerm, LedTo};
 ghost use Rattle.server.specs.Served.{opening_of};
 
 use crate::faults::ServerFault;
-use crate::guests::{Aside, Guest, Session};
-use crate::keeping::{Begins, Lasting, Restored, StoreFault};
+use crate::keeping::{Begins, Restored, StoreFault};
 use crate::streams::{opened, serve_tended, views_of};
-use crate::turns::Turn;
 use crossbeam_channel::{Receiver, RecvTimeoutError};
 use features::Subjects;
 use hall::{Closed, Hall, HallName, LEDGER_PARTS, LeaveFault, Left, Seat, Unnamed};
+use hall_workers::{Aside, Guest, Lasting, Reception, Session, Turn};
 use log::{Log, warn};
 use std::alloc::Global;
 use std::marker::Brand;
@@ -22,6 +21,7 @@ use std::sync::{Mutex, Wait};
 use std::thread;
 use std::thread::Threads;
 use std::time::{Clock, Duration};
+use world::FeatureLimit;
 
 /// For how many milliseconds it is waited for a connection before it is looked whether the turn is
 /// over.
@@ -125,9 +125,10 @@ fn left<'h, L: HallName, H: Wait + Drop, R: Wait + Clock + Log>(
 
 /// What the halls of a server have in common.
 #[derive(Clone, Copy)]
-pub(crate) struct Relay<'a> {
+pub(crate) struct Relay<'a, 'w> {
     pub(crate) heap: Global,
     pub(crate) workers: usize,
+    pub(crate) features: FeatureLimit,
     pub(crate) lasting: Option<Lasting<'a>>,
     /// New connections. Their sender is dropped when nobody new comes.
     pub(crate) arrivals: &'a Receiver<UnixStream>,
@@ -135,6 +136,16 @@ pub(crate) struct Relay<'a> {
     pub(crate) idle: Option<u64>,
     /// After how many records a hall gives way.
     pub(crate) records: u64,
+    /// Where connections of HTTP are received, if they are.
+    pub(crate) reception: Option<&'w Reception<'w>>,
+}
+
+/// How many workers answer by HTTP.
+fn web_workers(reception: Option<&Reception<'_>>) -> usize {
+    match reception {
+        Some(reception) => reception.workers,
+        None => 0,
+    }
 }
 
 /// What a hall leaves.
@@ -153,7 +164,7 @@ fn hold<L: HallName + Send + Sync, H, R>(
     rt: &R,
     own: H,
     unnamed: Unnamed,
-    relay: Relay<'_>,
+    relay: Relay<'_, '_>,
     subjects: Subjects,
     begins: Begins,
     waiting: Aside,
@@ -171,12 +182,15 @@ where
     let Relay {
         heap,
         workers,
+        features,
         lasting,
         arrivals,
         idle,
         records,
+        reception,
     } = relay;
-    let hall = opened::<L, H>(own, heap, unnamed, subjects, begins, workers)?;
+    let all_workers = workers.saturating_add(web_workers(reception));
+    let hall = opened::<L, H>(own, heap, unnamed, subjects, begins, all_workers, features)?;
     let turn = Turn::new(records);
     let aside = Mutex::new(Aside::none(heap));
     let coming = Coming {
@@ -190,7 +204,11 @@ where
         left: u64::MAX,
     };
     let views = views_of(rt, heap, &hall, workers)?;
-    let seats = serve_tended(rt, heap, &hall, views, lasting, Some(&turn), coming)?;
+    let web = match reception {
+        Some(reception) => Some((reception, views_of(rt, heap, &hall, reception.workers)?)),
+        None => None,
+    };
+    let seats = serve_tended(rt, heap, &hall, views, lasting, Some(&turn), web, coming)?;
     if let Some(lasting) = lasting {
         lasting.finish(rt, &hall);
     }
@@ -215,7 +233,7 @@ fn same_subjects(subjects: &Subjects) -> Subjects
 fn rolled_before(begins: &Begins) -> u64 {
     match begins {
         Begins::Document(_) => 0,
-        Begins::State(restored) => u64::from(restored.rolled()),
+        Begins::State(restored) => restored.rolled(),
     }
 }
 
@@ -248,9 +266,7 @@ fn behind(term: Term, account: Closed, before: u64) -> Result<Next, ServerFault>
     let Some(seats) = account.seats.checked_add(closed.seats) else {
         return Err(no_number);
     };
-    let Ok(rolled) = u32::try_from(before.saturating_add(records)) else {
-        return Err(no_number);
-    };
+    let rolled = before.saturating_add(records);
     let Some(restored) = Restored::new(base, rolled) else {
         return Err(no_number);
     };
@@ -266,7 +282,7 @@ fn behind(term: Term, account: Closed, before: u64) -> Result<Next, ServerFault>
 fn hold_next<H, R>(
     rt: &R,
     own: H,
-    relay: Relay<'_>,
+    relay: Relay<'_, '_>,
     subjects: &Subjects,
     before: u64,
     next: Next,
@@ -307,7 +323,7 @@ fn behind_records(lasting: Option<Lasting<'_>>, before: u64) -> Option<Lasting<'
 pub(crate) fn serve_relay<H, R>(
     rt: &R,
     own: H,
-    relay: Relay<'_>,
+    relay: Relay<'_, '_>,
     subjects: Subjects,
     begins: Begins,
 ) -> Result<Closed, ServerFault>

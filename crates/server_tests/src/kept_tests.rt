@@ -18,6 +18,7 @@ use std::sync::{Arc, Wait};
 use std::test::Fail;
 use std::time::Clock;
 use std::{fs, thread};
+use world::FeatureLimit;
 
 /// What a store of the tests does, and what became of it.
 #[derive(Drop)]
@@ -118,6 +119,7 @@ pub fn keeping(rt: &impl Abort, rests: Rests) -> Keeping {
     Keeping {
         subjects: three_subjects(rt),
         workers: 2,
+        features: FeatureLimit::usual(),
         rests,
     }
 }
@@ -129,6 +131,7 @@ const fn connections(connections: u16) -> SocketOptions<'static> {
         idle: None,
         takeover: false,
         stop: None,
+        web: None,
     }
 }
 

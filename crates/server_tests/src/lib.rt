@@ -25,3 +25,5 @@ mod stranger_tests;
 mod stream_tests;
 #[cfg(test)]
 mod takeover_tests;
+#[cfg(test)]
+mod web_tests;

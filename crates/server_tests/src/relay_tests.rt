@@ -1,7 +1,7 @@
 //! A server without end, whose halls follow one another.
 use crate::clients::{Talk, connected};
 use crate::kept_tests::{Deeds, Unopened, keeping};
-use crate::servers::{first_state, serving};
+use crate::servers::{first_state, serving, state_behind};
 use server::{Connections, Rests, SocketOptions, Stop, serve_kept, serve_socket};
 use std::alloc::Global;
 use std::io::{BufRead, BufReader, Write};
@@ -24,6 +24,7 @@ fn short_halls(stop: &Stop) -> SocketOptions<'_> {
         idle: None,
         takeover: false,
         stop: Some(stop),
+        web: None,
     }
 }
 
@@ -91,6 +92,28 @@ fn records_of_all_halls_are_kept(rt: HostRuntime) -> Result<(), Fail> {
     let _ = fs::remove_file(&rt, path);
     let deeds = Deeds::new(1_000, 0);
     let unopened = Unopened::new(Ok(first_state(&rt, heap)), &deeds);
+    let keeping = keeping(&rt, Rests::All);
+    let stop = Stop::new();
+    let (served, ()) = thread::join(
+        &rt,
+        || serve_kept(&rt, rt, heap, path, keeping, short_halls(&stop), unopened),
+        || across_halls(&rt, heap, path, &stop),
+    );
+    let closed = served.expect(&rt, "it ends well");
+    assert_eq!(rt; closed.records, SEARCHES + 2);
+    assert_eq!(rt; deeds.lasting(), SEARCHES + 2);
+    Ok(())
+}
+
+/// The same from a state on behind so many records that the numbers of those that follow pass 32
+/// bits.
+#[test]
+fn records_behind_many_are_kept(rt: HostRuntime) -> Result<(), Fail> {
+    let heap: Global = rt.alloc();
+    let path = "server_many_records.sock";
+    let _ = fs::remove_file(&rt, path);
+    let deeds = Deeds::new(1_000, 0);
+    let unopened = Unopened::new(Ok(state_behind(&rt, heap, 4_294_967_290)), &deeds);
     let keeping = keeping(&rt, Rests::All);
     let stop = Stop::new();
     let (served, ()) = thread::join(

@@ -11,7 +11,7 @@ use std::process::Abort;
 use std::sync::{Arc, Wait};
 use std::thread::Threads;
 use std::time::Clock;
-use world::Base;
+use world::{Base, FeatureLimit};
 
 /// A document that permits everything.
 pub const OPEN: &str =
@@ -51,6 +51,11 @@ pub fn three_subjects(rt: &impl Abort) -> Subjects {
 
 /// No features, and the document that permits everything as the first edition.
 pub fn first_state(rt: &impl Abort, heap: Global) -> Restored {
+    state_behind(rt, heap, 0)
+}
+
+/// The same behind so many records.
+pub fn state_behind(rt: &impl Abort, heap: Global, records: u64) -> Restored {
     let Ok(decider) = Decider::new(open_document(rt, heap), 1) else {
         panic!(rt; "no decider");
     };
@@ -59,7 +64,7 @@ pub fn first_state(rt: &impl Abort, heap: Global) -> Restored {
         version: 0,
         decider: Arc::new(heap, decider).expect(rt, "memory"),
     };
-    Restored::new(base, 0).expect(rt, "a state")
+    Restored::new(base, records).expect(rt, "a state")
 }
 
 /// Three subjects, for whom everything is permitted, and this many workers.
@@ -68,6 +73,7 @@ pub fn serving_by(rt: &impl Abort, heap: Global, workers: usize) -> Serving {
         subjects: three_subjects(rt),
         begins: Begins::Document(open_document(rt, heap)),
         workers,
+        features: FeatureLimit::usual(),
     }
 }
 

@@ -18,6 +18,7 @@ const ONE: SocketOptions<'static> = SocketOptions {
     idle: None,
     takeover: false,
     stop: None,
+    web: None,
 };
 
 /// Checks that the path is free again.
@@ -99,6 +100,7 @@ fn a_path_that_is_taken(rt: HostRuntime) -> Result<(), Fail> {
         idle: None,
         takeover: true,
         stop: None,
+        web: None,
     };
     assert_eq!(rt;
         serve_socket(&rt, rt, heap, path, serving(&rt, heap), ONE),
@@ -133,6 +135,7 @@ fn a_socket_is_taken_over(rt: HostRuntime) -> Result<(), Fail> {
         idle: None,
         takeover: true,
         stop: Some(&stop),
+        web: None,
     };
     assert_eq!(rt;
         serve_socket(&rt, rt, heap, path, serving(&rt, heap), options),
@@ -155,6 +158,7 @@ fn a_file_is_not_taken_over(rt: HostRuntime) -> Result<(), Fail> {
         idle: None,
         takeover: true,
         stop: None,
+        web: None,
     };
     assert_eq!(rt;
         serve_socket(&rt, rt, heap, path, serving(&rt, heap), options),
@@ -184,6 +188,7 @@ fn a_silent_client_is_left(rt: HostRuntime) -> Result<(), Fail> {
         idle: Some(1),
         takeover: false,
         stop: None,
+        web: None,
     };
     let (served, left) = thread::join(
         &rt,

@@ -8,7 +8,7 @@ use server::{Connections, ServerFault, SocketOptions, Stop, serve_socket, watch}
 use std::alloc::Global;
 use std::fs::{File, Files};
 use std::io::{ErrorKind, Print};
-use std::net::Net;
+use std::net::{Net, TcpListener, TcpStream};
 use std::os::unix::net::UnixListener;
 use std::process::Abort;
 use std::sync::Wait;
@@ -39,6 +39,7 @@ fn takes_over(connections: u16) -> SocketOptions<'static> {
         idle: None,
         takeover: true,
         stop: None,
+        web: None,
     }
 }
 
@@ -117,7 +118,15 @@ fn a_successor_keeps_its_path(rt: HostRuntime) {
 fn one_of_two<H, R>(rt: &R, own: H, heap: Global, path: &str, turned_down: &AtomicU64) -> bool
 where
     H: Wait + Copy + Drop + Send,
-    R: Threads + Wait + Clock + Log + Files<File = File> + Net + Print + Abort + Sync,
+    R: Threads
+        + Wait
+        + Clock
+        + Log
+        + Files<File = File>
+        + Net<Stream = TcpStream, Listener = TcpListener>
+        + Print
+        + Abort
+        + Sync,
 {
     match serve_socket(rt, own, heap, path, serving(rt, heap), takes_over(2)) {
         Ok(_) => true,
@@ -171,6 +180,7 @@ fn the_end_of_an_input_stops_a_server(rt: HostRuntime) {
         idle: None,
         takeover: false,
         stop: Some(&stop),
+        web: None,
     };
     let (closed, told) = thread::join(
         &rt,
@@ -202,6 +212,7 @@ fn nobody_is_served_behind_a_stop(rt: HostRuntime) {
         idle: None,
         takeover: false,
         stop: Some(&stop),
+        web: None,
     };
     let (closed, replies) = thread::join(
         &rt,

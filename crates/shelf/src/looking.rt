@@ -142,8 +142,8 @@ pub struct Checked {
 #[derive(Drop)]
 struct ReadVolume {
     state: State<Global>,
-    first: u32,
-    next: u32,
+    first: u64,
+    next: u64,
 }
 
 /// Reads a volume whole; `None` where it has not begun.
@@ -198,7 +198,7 @@ pub fn check_store(rt: &HostRuntime, folder: &str) -> Result<Checked, ShelfFault
         next = Some(read.next);
         checked.volumes = checked.volumes.saturating_add(1);
         let records = read.next.saturating_sub(read.first);
-        checked.records = checked.records.saturating_add(u64::from(records));
+        checked.records = checked.records.saturating_add(records);
     }
     Ok(checked)
 }

@@ -70,7 +70,7 @@ pub(crate) fn make_tables(rt: &HostRuntime, path: &str) -> Result<(Disk, Tables)
 #[derive(Clone, Copy)]
 pub(crate) struct Lives {
     pub(crate) last: u64,
-    pub(crate) first: u32,
+    pub(crate) first: u64,
 }
 
 /// The two numbers in the table `life`; `None` where it has no row.
@@ -119,7 +119,7 @@ pub(crate) fn open_volume(rt: &HostRuntime, path: &str) -> Result<Opened, ShelfF
     let Some((last, first)) = lives else {
         return Ok(Opened::NotBegun);
     };
-    let (Ok(last), Ok(first)) = (u64::try_from(last), u32::try_from(first)) else {
+    let (Ok(last), Ok(first)) = (u64::try_from(last), u64::try_from(first)) else {
         return Err(damaged(
             heap,
             path,

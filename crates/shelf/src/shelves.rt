@@ -36,7 +36,7 @@ pub struct Found {
     /// The number of this life, from 1.
     pub life: u64,
     /// The number of the next record.
-    pub next: u32,
+    pub next: u64,
     /// The state that the records so far have led to.
     pub state: State<Global>,
 }
@@ -50,7 +50,7 @@ pub struct Shelf {
     _lock: File,
     volume: Volume<Disk>,
     number: u32,
-    first: u32,
+    first: u64,
     life: u64,
     /// The records that are gathered to be appended.
     records: Vec<Arc<Record<Global>, Global>>,
@@ -103,7 +103,7 @@ fn volume_over(
     path: &str,
     store: Disk,
     tables: Tables,
-    first: u32,
+    first: u64,
 ) -> Result<Volume<Disk>, ShelfFault> {
     match Volume::new(store, heap, tables, first) {
         Ok(volume) => Ok(volume),
@@ -115,7 +115,7 @@ fn volume_over(
 #[derive(Drop)]
 struct Opening<'a> {
     number: u32,
-    first: u32,
+    first: u64,
     features: &'a [Feature],
     version: u64,
     decider: &'a Decider,
@@ -168,7 +168,7 @@ fn state_in(
 struct Resumed {
     volume: Volume<Disk>,
     number: u32,
-    first: u32,
+    first: u64,
     life: u64,
     state: State<Global>,
 }
@@ -277,7 +277,7 @@ impl Shelf {
     }
 
     /// The number of the next record.
-    pub fn next(&self) -> u32
+    pub fn next(&self) -> u64
         ensures { result ≡ self.now.volume.next }
     {
         self.volume.next()
@@ -288,7 +288,7 @@ impl Shelf {
     /// again; after any other, nothing can be said of what is on the disk but that it is what was
     /// there before, or that and the group.
     pub fn append(&mut self, records: &[Arc<Record<Global>, Global>]) -> Result<(), ShelfFault> {
-        if self.volume.next().saturating_sub(self.first) >= VOLUME_RECORDS {
+        if self.volume.next().saturating_sub(self.first) >= u64::from(VOLUME_RECORDS) {
             self.turn()?;
         }
         let heap = self.rt.alloc();
@@ -299,7 +299,7 @@ impl Shelf {
     }
 
     /// Gathers the records of a trail from the next number to `end`.
-    fn gather(&mut self, trail: &Trail<Global>, end: u32) -> Result<(), NoMemory> {
+    fn gather(&mut self, trail: &Trail<Global>, end: u64) -> Result<(), NoMemory> {
         self.records.clear();
         for number in self.next()..end {
             if let Some(record) = trail.get(number) {
@@ -367,7 +367,7 @@ impl Keeper<Global> for Shelf {
     ghost next = { λ shelf. shelf.volume.next };
 
     fn keep(&mut self, trail: &Trail<Global>) -> Result<(), ShelfFault> {
-        let Some(end) = trail.first().checked_add(trail.len()) else {
+        let Some(end) = trail.first().checked_add(u64::from(trail.len())) else {
             return Err(ShelfFault::NoNumber(self.path()?));
         };
         self.gather(trail, end)?;

@@ -287,7 +287,7 @@ fn scripts_go_on(rt: HostRuntime) -> Result<(), Fail> {
 #[derive(Drop)]
 struct Failing {
     calls: u32,
-    next: u32,
+    next: u64,
 }
 
 impl Keeper<Global> for Failing {
@@ -300,7 +300,7 @@ impl Keeper<Global> for Failing {
             return Err(());
         }
         self.calls -= 1;
-        self.next = trail.first().saturating_add(trail.len());
+        self.next = trail.first().saturating_add(u64::from(trail.len()));
         Ok(())
     }
 }

@@ -110,7 +110,12 @@ pub fn memory_store(rt: &impl Abort, heap: Global) -> MemStore {
 
 /// A volume in memory that has begun: no features, version 0, and a policy that permits everything.
 pub fn new_volume(rt: &impl Abort, heap: Global) -> Volume<MemStore> {
-    let mut volume = match Volume::new(memory_store(rt, heap), heap, TABLES, 1) {
+    new_volume_at(rt, heap, 1)
+}
+
+/// The same, whose first record has this number.
+pub fn new_volume_at(rt: &impl Abort, heap: Global, first: u64) -> Volume<MemStore> {
+    let mut volume = match Volume::new(memory_store(rt, heap), heap, TABLES, first) {
         Ok(volume) => volume,
         Err((fault, _)) => panic!(rt; "no volume: {fault}"),
     };

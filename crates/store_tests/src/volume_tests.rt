@@ -1,6 +1,6 @@
 //! Volumes over a store in memory.
 use crate::parts::{
-    Dice, OPEN, SHUT, TABLES, decider, editor, memory_store, name, new_volume, point,
+    Dice, OPEN, SHUT, TABLES, decider, editor, memory_store, name, new_volume, new_volume_at, point,
 };
 use audit_trail::{Deed, Record};
 use features::{Change, Feature};
@@ -266,6 +266,66 @@ fn ten_thousand_records_beside_a_list(rt: HostRuntime) -> Result<(), Fail> {
         Err(fault) => panic!(rt; "no state: {fault}"),
     }
     assert_eq!(rt; again.next(), 10_001);
+    Ok(())
+}
+
+/// A volume over the store of another, whose first record has this number.
+fn reopened(
+    rt: &impl Abort,
+    heap: Global,
+    volume: Volume<MemStore>,
+    first: u64,
+) -> Volume<MemStore> {
+    match Volume::new(volume.into_store(), heap, TABLES, first) {
+        Ok(volume) => volume,
+        Err((fault, _)) => panic!(rt; "no volume: {fault}"),
+    }
+}
+
+#[test]
+fn numbers_beyond_32_bits(rt: HostRuntime) -> Result<(), Fail> {
+    let heap = rt.alloc();
+    let first = 4_294_967_294;
+    let mut volume = new_volume_at(&rt, heap, first);
+    for id in 1..6u64 {
+        append(
+            &rt,
+            heap,
+            &mut volume,
+            &list(&rt, heap, id, &[mast(&rt, id)])?,
+        );
+    }
+    assert_eq!(rt; volume.next(), 4_294_967_299);
+    let mut again = reopened(&rt, heap, volume, first);
+    assert!(rt; again.restore(heap, heap).is_ok());
+    assert_eq!(rt; again.next(), 4_294_967_299);
+    let more = list(&rt, heap, 6, &[mast(&rt, 6)])?;
+    append(&rt, heap, &mut again, &more);
+    let mut wrong = reopened(&rt, heap, again, first.saturating_add(1));
+    assert!(rt; matches!(wrong.restore(heap, heap), Err(VolumeFault::BadRecord)));
+    Ok(())
+}
+
+/// A record has a number below 2^63.
+#[test]
+fn numbers_at_the_end(rt: HostRuntime) -> Result<(), Fail> {
+    let heap = rt.alloc();
+    let last = 9_223_372_036_854_775_807;
+    let mut volume = new_volume_at(&rt, heap, last);
+    append(
+        &rt,
+        heap,
+        &mut volume,
+        &list(&rt, heap, 1, &[mast(&rt, 1)])?,
+    );
+    let one_more = list(&rt, heap, 2, &[mast(&rt, 2)])?;
+    let done = volume.append(heap, one_more.as_slice());
+    assert!(rt; matches!(done, Err(VolumeFault::NoNumber)));
+    assert!(rt; matches!(volume.note_life(2, "[]"), Err(VolumeFault::NoNumber)));
+    keeps(&rt, heap, &mut volume, &[feature(&rt, 1, 1, 4)]);
+    let mut again = reopened(&rt, heap, volume, last);
+    assert!(rt; again.restore(heap, heap).is_ok());
+    assert_eq!(rt; again.next(), 9_223_372_036_854_775_808);
     Ok(())
 }
 

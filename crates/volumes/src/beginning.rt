@@ -1,6 +1,6 @@
 //! The first rows of a volume.
 
-ghost use Rattle.std.specs.Prelude.{◌≡◌, OnOk};
+ghost use Rattle.std.specs.Prelude.{◌≡◌, ◌<◌, OnOk};
 ghost use Rattle.sqlite_trees.specs.View.{IsClean, IsQuiet, OnlyWrites};
 ghost use Rattle.sqlite_trees.specs.Tree.{put_row};
 ghost use Rattle.sqlite_trees.specs.declared.store.Shape.TheVariants as kind;
@@ -12,7 +12,7 @@ use crate::changes::{Buffers, add};
 use crate::edits::put;
 use crate::faults::VolumeFault;
 use crate::policies::set_policy;
-use crate::rows::set_life;
+use crate::rows::{NUMBER_END, set_life};
 use crate::tables::Tables;
 use decision::Decider;
 use features::Feature;
@@ -47,9 +47,10 @@ pub(crate) fn put_life<S: Store>(
     buffers: &mut Buffers,
     table: u32,
     life: u64,
-    first: u32,
+    first: u64,
     subjects: &str,
 ) -> Result<(), VolumeFault>
+    requires number { first < NUMBER_END }
     requires shaped { IsClean (S.Store.view store.old)
         → (S.Store.view store.old).shape table ≡ kind.Table }
     ensures ok { OnOk result (IsClean (S.Store.view store.new)
@@ -74,9 +75,10 @@ pub(crate) fn put_state<S: Store>(
     version: u64,
     decider: &Decider,
     life: u64,
-    first: u32,
+    first: u64,
     subjects: &str,
 ) -> Result<(), VolumeFault>
+    requires number { first < NUMBER_END }
     requires shaped { IsClean (S.Store.view store.old)
         → AreTables (S.Store.view store.old) tables.now }
     ensures frame { OnOk result (IsClean (S.Store.view store.new)

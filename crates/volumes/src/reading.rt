@@ -13,7 +13,7 @@ ghost use Rattle.volumes.specs.States.{state_of};
 use crate::changes::Buffers;
 use crate::faults::VolumeFault;
 use crate::policies::set_policy;
-use crate::rows::{set_feature, set_line};
+use crate::rows::{NUMBER_END, set_feature, set_line};
 use crate::tables::Tables;
 use decision::Decider;
 use features::{Feature, Name};
@@ -273,7 +273,8 @@ fn read_policy<S: Store>(
 }
 
 /// The line of a record's row, which has to have this number. `expected` is written over.
-fn check_line(row: &Row, expected: &mut Row, number: u32) -> Result<(), VolumeFault>
+fn check_line(row: &Row, expected: &mut Row, number: u64) -> Result<(), VolumeFault>
+    requires { number < NUMBER_END }
     ensures { OnOk result (row.now ≡ row_of_line number (bytes (column row.now 2))) }
 {
     let ValueRef::Text(line) = row.get(2) else {
@@ -293,8 +294,8 @@ pub(crate) fn read_lines<S: Store>(
     heap: Global,
     buffers: &mut Buffers,
     table: u32,
-    first: u32,
-) -> Result<u32, VolumeFault>
+    first: u64,
+) -> Result<u64, VolumeFault>
     requires { IsClean (S.Store.view store.old) → (S.Store.view store.old).shape table ≡ kind.Table }
     ensures ok { IfOk result (λ next. IsClean (S.Store.view store.new) → (lines : List (List ℕ))
         × ((S.Store.view store.old).trees table ≡ rows_from first lines)
@@ -312,10 +313,10 @@ pub(crate) fn read_lines<S: Store>(
         if !read_next(store, &mut buffers.row)? {
             return Ok(number);
         }
-        check_line(&buffers.row, &mut buffers.found, number)?;
-        if number == u32::MAX {
+        if number >= NUMBER_END {
             return Err(VolumeFault::NoNumber);
         }
+        check_line(&buffers.row, &mut buffers.found, number)?;
         number += 1;
     }
     Err(VolumeFault::BadRecord)
@@ -371,8 +372,8 @@ pub(crate) fn read_all<S: Store, A: Allocator + Copy>(
     heap: Global,
     buffers: &mut Buffers,
     tables: &Tables,
-    first: u32,
-) -> Result<(State<A>, u32), VolumeFault>
+    first: u64,
+) -> Result<(State<A>, u64), VolumeFault>
     requires { IsClean (S.Store.view store.old) → AreTables (S.Store.view store.old) tables.now }
     ensures ok { IfOk result (λ all. IsClean (S.Store.view store.new) → (lines : List (List ℕ))
         × HoldsAt tables.now (S.Store.view store.old).trees all.1

@@ -1,6 +1,6 @@
 //! Records, as edits of the tables.
 
-ghost use Rattle.std.specs.Prelude.{◌≡◌, ◌+◌, ◌<◌, ◌^◌, [], ◌∷◌, length, map, OnOk};
+ghost use Rattle.std.specs.Prelude.{◌≡◌, ◌+◌, ◌<◌, ◌≤◌, [], ◌∷◌, length, map, OnOk};
 ghost use Rattle.std.specs.Arc.{arc_value};
 ghost use Rattle.sqlite_trees.specs.View.{IsClean, IsQuiet};
 ghost use Rattle.sqlite_trees.specs.Tree.{put_row};
@@ -17,7 +17,7 @@ use crate::changes::{Buffers, put_changes};
 use crate::edits::put;
 use crate::faults::VolumeFault;
 use crate::policies::{put_document, put_version};
-use crate::rows::set_line;
+use crate::rows::{NUMBER_END, set_line};
 use crate::tables::Tables;
 use audit_trail::{Deed, Record, record_line};
 use features::{Change, Subject};
@@ -31,9 +31,10 @@ fn put_line<S: Store>(
     store: &mut S,
     row: &mut Row,
     table: u32,
-    number: u32,
+    number: u64,
     line: &str,
 ) -> Result<(), VolumeFault>
+    requires number { number < NUMBER_END }
     requires shaped { IsClean (S.Store.view store.old)
         → (S.Store.view store.old).shape table ≡ kind.Table }
     ensures ok { OnOk result (IsClean (S.Store.view store.new)
@@ -123,9 +124,10 @@ fn put_record<S: Store, A: Allocator>(
     buffers: &mut Buffers,
     tables: &Tables,
     heap: Global,
-    number: u32,
+    number: u64,
     entry: &Record<A>,
 ) -> Result<(), VolumeFault>
+    requires number { number < NUMBER_END }
     requires apart { AreApart tables.now }
     requires shaped { IsClean (S.Store.view store.old)
         → AreTables (S.Store.view store.old) tables.now }
@@ -154,10 +156,10 @@ pub(crate) fn put_records<S: Store, A: Allocator>(
     buffers: &mut Buffers,
     tables: &Tables,
     heap: Global,
-    first: u32,
+    first: u64,
     records: &[Arc<Record<A>, A>],
 ) -> Result<(), VolumeFault>
-    requires numbers { first + length records.now < 2 ^ 32 }
+    requires numbers { first + length records.now ≤ NUMBER_END }
     requires apart { AreApart tables.now }
     requires shaped { IsClean (S.Store.view store.old)
         → AreTables (S.Store.view store.old) tables.now }

@@ -13,6 +13,9 @@ use sqlite_value::value::ValueRef;
 use std::alloc::AllocError;
 use wkt::shape_text;
 
+/// Records have numbers below 2^63, so that each is a positive integer of SQLite.
+pub(crate) const NUMBER_END: u64 = 9_223_372_036_854_775_808;
+
 /// A number as SQLite's signed integer: those from 2^63 on are stored as `n - 2^64`.
 pub(crate) fn signed(n: u64) -> i64
     ensures value { result ≡ signed n }
@@ -26,11 +29,12 @@ pub(crate) fn signed(n: u64) -> i64
 }
 
 /// Makes the row of a record's line: its number, the key's own empty place, and the text.
-pub(crate) fn set_line(row: &mut Row, number: u32, line: &[u8]) -> Result<(), AllocError>
+pub(crate) fn set_line(row: &mut Row, number: u64, line: &[u8]) -> Result<(), AllocError>
+    requires { number < NUMBER_END }
     ensures { OnOk result (row.new ≡ row_of_line number line.now) }
 {
     row.clear();
-    row.push(ValueRef::Int(i64::from(number)))?;
+    row.push(ValueRef::Int(number as i64))?;
     row.push(ValueRef::Null)?;
     row.push(ValueRef::Text(line))
 }
@@ -40,15 +44,16 @@ pub(crate) fn set_line(row: &mut Row, number: u32, line: &[u8]) -> Result<(), Al
 pub(crate) fn set_life(
     row: &mut Row,
     life: u64,
-    first: u32,
+    first: u64,
     subjects: &str,
 ) -> Result<(), AllocError>
+    requires { first < NUMBER_END }
     ensures { OnOk result (row.new ≡ row_of_life life first subjects.now) }
 {
     row.clear();
     row.push(ValueRef::Int(signed(life)))?;
     row.push(ValueRef::Null)?;
-    row.push(ValueRef::Int(i64::from(first)))?;
+    row.push(ValueRef::Int(first as i64))?;
     row.push(ValueRef::Text(subjects.as_bytes()))
 }
 

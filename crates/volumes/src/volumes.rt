@@ -1,6 +1,6 @@
 //! Volumes, and how records are appended.
 
-ghost use Rattle.std.specs.Prelude.{◌≡◌, ℕ, List, ◌+◌, ◌<◌, ◌≤◌, ◌^◌, ◌⊎◌, length, map, OnOk, OnErr, IfOk, IfSome, IfNone, IsTrue};
+ghost use Rattle.std.specs.Prelude.{◌≡◌, ℕ, List, ◌+◌, ◌<◌, ◌≤◌, ◌⊎◌, length, map, OnOk, OnErr, IfOk, IfSome, IfNone, IsTrue};
 ghost use Rattle.std.specs.Arc.{arc_value};
 ghost use Rattle.features.specs.Rows.{IsSortedById};
 ghost use Rattle.sqlite_trees.specs.Tree.{Trees};
@@ -15,6 +15,7 @@ use crate::changes::Buffers;
 use crate::faults::VolumeFault;
 use crate::reading::{State, read_all, read_state};
 use crate::records::put_records;
+use crate::rows::NUMBER_END;
 use crate::tables::Tables;
 use audit_trail::Record;
 use decision::Decider;
@@ -31,7 +32,7 @@ use std::sync::Arc;
 pub struct Volume<S: Store> {
     pub(crate) store: S,
     pub(crate) tables: Tables,
-    pub(crate) next: u32,
+    pub(crate) next: u64,
     pub(crate) buffers: Buffers,
 }
 
@@ -66,7 +67,7 @@ impl<S: Store> Volume<S> {
         mut store: S,
         heap: Global,
         tables: Tables,
-        next: u32,
+        next: u64,
     ) -> Result<Self, (VolumeFault, S)>
         ensures tables { IfOk result (λ v. v.tables ≡ tables) }
         ensures next { IfOk result (λ v. v.next ≡ next) }
@@ -95,7 +96,7 @@ impl<S: Store> Volume<S> {
     }
 
     /// The number of the next record.
-    pub fn next(&self) -> u32
+    pub fn next(&self) -> u64
         ensures { result ≡ self.now.next }
     {
         self.next
@@ -124,7 +125,7 @@ impl<S: Store> Volume<S> {
     /// Appends a group of records with what they changed, all of them or none, and returns when
     /// they last: from then on whatever a crash leaves has them. After an error the volume is as it
     /// was, and while its store is open the group may be appended again. `NoNumber` exactly where
-    /// the numbers of these records would pass 32 bits; then nothing was tried. `Misfit` where a
+    /// the numbers of these records would reach 2^63; then nothing was tried. `Misfit` where a
     /// record adds a feature that is there, or changes one that is not.
     pub fn append<A: Allocator>(
         &mut self,
@@ -199,7 +200,8 @@ impl<S: Store> Volume<S> {
 
     /// Puts a state and a life into the tables of a new volume, and commits it, all of it or
     /// nothing: so a volume that has a life has a state. What is there then, `state` and `restore`
-    /// say. `subjects` is a text for readers. `Misfit` where a feature's id is there already.
+    /// say. `subjects` is a text for readers. `NoNumber` where the next record has no number below
+    /// 2^63, `Misfit` where a feature's id is there already.
     pub fn begin(
         &mut self,
         heap: Global,
@@ -216,6 +218,9 @@ impl<S: Store> Volume<S> {
         ensures err { OnErr result (IsHonest S.Store.view self.new → IsOpen S.Store.view self.new
             → told S.Store.view self.new ≡ told S.Store.view self.old) }
     {
+        if self.next >= NUMBER_END {
+            return Err(VolumeFault::NoNumber);
+        }
         let put = put_state(
             &mut self.store,
             &mut self.buffers,
@@ -236,7 +241,7 @@ impl<S: Store> Volume<S> {
     }
 
     /// Notes a life, whose first record is the next one, and commits that. All else stays. `subjects`
-    /// is a text for readers.
+    /// is a text for readers. `NoNumber` where the next record has no number below 2^63.
     pub fn note_life(&mut self, life: u64, subjects: &str) -> Result<(), VolumeFault>
         ensures tables { self.new.tables ≡ self.old.tables }
         ensures next { self.new.next ≡ self.old.next }
@@ -247,6 +252,9 @@ impl<S: Store> Volume<S> {
         ensures err { OnErr result (IsHonest S.Store.view self.new → IsOpen S.Store.view self.new
             → told S.Store.view self.new ≡ told S.Store.view self.old) }
     {
+        if self.next >= NUMBER_END {
+            return Err(VolumeFault::NoNumber);
+        }
         let put = put_life(
             &mut self.store,
             &mut self.buffers,
@@ -333,11 +341,15 @@ fn have_rows<S: Store>(store: &S, tables: &Tables) -> bool
         && has_rows(store, tables.lives)
 }
 
-/// The number after this many more records, if it has 32 bits.
-fn number_after(number: u32, count: usize) -> Option<u32>
-    ensures some { IfSome result (λ next. (next ≡ number + count) × (number + count < 2 ^ 32)) }
-    ensures none { IfNone result (2 ^ 32 ≤ number + count) }
+/// The number after this many more records, if all their numbers are below `NUMBER_END`.
+fn number_after(number: u64, count: usize) -> Option<u64>
+    ensures some { IfSome result
+        (λ next. (next ≡ number + count) × (number + count ≤ NUMBER_END)) }
+    ensures none { IfNone result (NUMBER_END < number + count) }
 {
-    let count = u32::try_from(count).ok()?;
-    number.checked_add(count)
+    let next = number.checked_add(count as u64)?;
+    if next > NUMBER_END {
+        return None;
+    }
+    Some(next)
 }

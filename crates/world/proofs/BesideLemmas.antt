@@ -18,7 +18,7 @@ use Rattle.plain_world.specs.Admitting.{LAST, and_then, subject_at, own_transact
 use Rattle.plain_world.specs.Events.{TakeSeat, Begin, Stage, Commit, Abort, Govern, Roll, Reply, Ended, Failed, Happens, Applies, CommitsAs, recorded, without_transaction}
 use Rattle.plain_world.specs.Laws.{IsUnderWay}
 use Rattle.plain_world.specs.Staging.{TransactionData, transaction_with, placements, staged_in}
-use Rattle.plain_world.specs.States.{WorldData}
+use Rattle.plain_world.specs.States.{WorldData, most_features}
 use Rattle.plain_world.proofs.AdmittedLemmas.{by_if, by_unless, own_open, staged_of}
 use Rattle.plain_world.proofs.RunLemmas.{and_then_ok}
 use Rattle.world.specs.Index.{Index, IndexServes, AreAmong, HasFeatures, HasPlacements, told_here}
@@ -119,7 +119,7 @@ list_there all seat number w subject may p =
 beside_applies : (seat number : ℕ) (subject who : Subject) (old new : WorldData) (reply : Reply) → may_commit seat number old ≡ Ok who → Applies seat number subject (staged_in number old.transactions) old new reply → Beside old new
 beside_applies seat number subject who old new reply may d =
     let changes = staged_in number old.transactions in
-    go (old.state.version == LAST) (nat_lt old.limits.features (length (after (old.state.version + 1) subject.office changes old.state.features))) d
+    go (old.state.version == LAST) (nat_lt (most_features old) (length (after (old.state.version + 1) subject.office changes old.state.features))) d
   where
     go : (last full : Bool) → MatchBool last ((new ≡ old) × (reply ≡ Failed faults.Spent)) (MatchBool full ((new ≡ old) × (reply ≡ Failed faults.StoreFull))
         ((reply ≡ Ended (outcomes.Applied (old.state.version + 1))) × (new ≡ without_transaction number (recorded seat (applied subject (old.state.version + 1) (staged_in number old.transactions)) old)))) → Beside old new

@@ -14,7 +14,7 @@ use Rattle.plain_world.specs.declared.outcomes.Outcome.TheVariants as outcomes
 use Rattle.plain_world.specs.Admitting.{LAST, may_sit, may_begin, may_step, may_stage, may_commit, may_govern, may_roll}
 use Rattle.plain_world.specs.Events.{TakeSeat, Begin, Stage, Commit, Abort, Govern, Roll, Reply, Done, Number, Ended, Failed, Happens, Applies, CommitsAs, recorded, without_transaction}
 use Rattle.plain_world.specs.Staging.{TransactionData, staged_in, ended as without}
-use Rattle.plain_world.specs.States.{WorldData}
+use Rattle.plain_world.specs.States.{WorldData, most_features}
 use Rattle.plain_world.proofs.AdmittedLemmas.{admitted, by_if, by_unless}
 use Rattle.world.specs.Walks.{AreWalks, JourneyData, walk_begun, walk_ended}
 use Rattle.world.proofs.WalkLemmas.{walks_begun, walks_ended, walks_staged}
@@ -75,7 +75,7 @@ Ends number old new = new.transactions ≡ without number old.transactions
 
 ends_applied : (seat number : ℕ) (subject : Subject) (changes : List Change) (old new : WorldData) (outcome : Outcome) → Applies seat number subject changes old new (Ended outcome) → Ends number old new
 ends_applied seat number subject changes old new outcome d =
-    go (old.state.version == LAST) (nat_lt old.limits.features (length (after (old.state.version + 1) subject.office changes old.state.features))) d
+    go (old.state.version == LAST) (nat_lt (most_features old) (length (after (old.state.version + 1) subject.office changes old.state.features))) d
   where
     go : (last full : Bool) → MatchBool last ((new ≡ old) × (Ended outcome ≡ Failed faults.Spent)) (MatchBool full ((new ≡ old) × (Ended outcome ≡ Failed faults.StoreFull))
         ((Ended outcome ≡ Ended (outcomes.Applied (old.state.version + 1))) × (new ≡ without_transaction number (recorded seat (applied subject (old.state.version + 1) changes) old)))) → Ends number old new

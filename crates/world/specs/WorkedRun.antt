@@ -2,7 +2,6 @@
 use Rattle.std.specs.Prelude.{◌≡◌, ℕ, List, map}
 use Rattle.features.specs.Rows.{IsSortedById}
 use Rattle.features.specs.declared.actors.Subject.{Subject}
-use Rattle.feature_store.specs.declared.tables.TheConstants.{FEATURE_LIMIT}
 use Rattle.policy_documents.specs.Documents.{DocumentData}
 use Rattle.decision.specs.Deciders.{DeciderData}
 use Rattle.audit_trail.specs.declared.trails.TheConstants.{RECORD_LIMIT}
@@ -12,11 +11,11 @@ use Rattle.plain_world.specs.Laws.{Accounts, IsExact, in_force}
 use Rattle.plain_world.specs.States.{WorldData, opened}
 use Rattle.plain_world.specs.declared.settings.Limits.{Limits}
 use Rattle.plain_world.specs.declared.settings.Starts.{Starts}
-use Rattle.plain_world.specs.declared.settings.TheConstants.{STEP_LIMIT}
+use Rattle.plain_world.specs.declared.settings.TheConstants.{STEP_LIMIT, USUAL_FEATURES}
 use Rattle.world.specs.declared.worked_run.Call.{Call}
 use Rattle.world.specs.declared.worked_run.Call.TheVariants as calls
 
--- A world that a document has just opened: edition 1, the first numbers, the greatest limits.
+-- A world that a document has just opened: edition 1, the first numbers, the usual limits.
 
 abbrev pub first_decider : DocumentData → DeciderData
 first_decider document = record { document = document; edition = 1 }
@@ -31,12 +30,12 @@ first_starts = record {
   rolled = 0;
 }
 
-abbrev pub greatest_limits : Limits
-greatest_limits = record { steps = STEP_LIMIT; records = RECORD_LIMIT; features = FEATURE_LIMIT }
+abbrev pub usual_limits : Limits
+usual_limits = record { steps = STEP_LIMIT; records = RECORD_LIMIT; features = USUAL_FEATURES }
 
 abbrev pub just_opened : List Subject → DocumentData → WorldData
 just_opened subjects document =
-    opened subjects (first_decider document) first_starts greatest_limits
+    opened subjects (first_decider document) first_starts usual_limits
 
 -- the event of a call
 abbrev pub event_of : Call → Event

@@ -27,7 +27,7 @@ use frame_keys::Frames;
 use memory::NoMemory;
 use plain_world::{
     Base, CHANGE_LIMIT, Fault, Limits, PlainWorld, ROLLED_LIMIT, SEAT_LIMIT, STEP_LIMIT, Search,
-    Starts,
+    Starts, USUAL_FEATURES,
 };
 use policy_documents::Document;
 use search_tree::{Tree, TreeFault};
@@ -208,8 +208,8 @@ impl<A: Allocator> World<A> {
 }
 
 impl<A: Allocator + Copy> World<A> {
-    /// A world with no features and no seats, with this document as its first edition. X12 where an
-    /// allocation is refused: then the document is returned.
+    /// A world with no features and no seats, with this document as its first edition, within the
+    /// limits `Limits::USUAL`. X12 where an allocation is refused: then the document is returned.
     pub fn open(
         alloc: A,
         heap: Global,
@@ -226,7 +226,7 @@ impl<A: Allocator + Copy> World<A> {
               edition = 1;
               rolled = 0;
             }) (record
-            { steps = STEP_LIMIT; records = RECORD_LIMIT; features = FEATURE_LIMIT })) }
+            { steps = STEP_LIMIT; records = RECORD_LIMIT; features = USUAL_FEATURES })) }
         ensures index { IfOk result (λ w. IsFirst frames 0 0 1 STEP_LIMIT w.index) }
         ensures walks { IfOk result (λ w. w.walks ≡ []) }
         ensures err { IfErr result (λ e. e ≡ (document, Fault.Memory out_of_memory)) }
@@ -237,13 +237,12 @@ impl<A: Allocator + Copy> World<A> {
             subjects,
             document,
             Starts::FIRST,
-            Limits::GREATEST,
+            Limits::USUAL,
         )
     }
 
-    /// The same with other first numbers and other limits, for tests of what happens at their ends.
-    /// No limit is above that of `Limits::GREATEST`, and at most `ROLLED_LIMIT` records were rolled
-    /// out before.
+    /// The same with other first numbers and other limits. No limit is above that of
+    /// `Limits::GREATEST`, and at most `ROLLED_LIMIT` records were rolled out before.
     pub fn open_at(
         alloc: A,
         heap: Global,

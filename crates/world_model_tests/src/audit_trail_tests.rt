@@ -1,6 +1,6 @@
 //! A trail's records and their lines, and how lists of changes are judged.
 use crate::parts::{document, name, point, square};
-use audit_trail::{Deed, RECORD_LIMIT, Record, Trail, TrailFault};
+use audit_trail::{Deed, FIRST_LIMIT, RECORD_LIMIT, Record, Trail, TrailFault};
 use decision::Decider;
 use feature_store::Store;
 use features::{Change, Name, Subject};
@@ -304,26 +304,53 @@ fn places_in_lists(rt: HostRuntime) -> Result<(), Fail> {
     Ok(())
 }
 
-#[test]
-fn numbers_of_records(rt: HostRuntime) -> Result<(), Fail> {
-    let heap = rt.alloc();
-    let mut trail = Trail::starting_at(heap, 41);
-    assert!(rt; trail.is_empty() && trail.first() == 41);
-    for number in 41..44 {
-        let entry = Record::new(number, refused(&rt, heap, Cause::Exists)?);
-        assert!(rt; trail.push(entry).ok() == Some(number));
+/// The records of four seats are numbered from `first` on.
+fn check_numbers(rt: &impl Abort, heap: Global, first: u64) -> Result<(), AllocError> {
+    assert!(rt; first <= FIRST_LIMIT);
+    let mut trail = Trail::starting_at(heap, first);
+    assert!(rt; trail.is_empty() && trail.first() == first);
+    for seat in 0..3u32 {
+        let entry = Record::new(seat, refused(rt, heap, Cause::Exists)?);
+        assert!(rt; trail.push(entry).ok() == Some(first.saturating_add(u64::from(seat))));
     }
     assert_eq!(rt; trail.len(), 3);
-    let entry = Record::new(44, refused(&rt, heap, Cause::Absent)?);
+    let entry = Record::new(3, refused(rt, heap, Cause::Absent)?);
     assert!(rt; trail.len() < RECORD_LIMIT);
     let prepared = trail.prepare(entry);
     assert!(rt; prepared.is_ok() && trail.len() == 3);
     trail.put(prepared.unwrap());
-    for number in 41..45 {
-        let entry = trail.get(number);
+    for seat in 0..4u32 {
+        let entry = trail.get(first.saturating_add(u64::from(seat)));
         assert!(rt; entry.is_some());
-        assert_eq!(rt; entry.unwrap().seat(), number);
+        assert_eq!(rt; entry.unwrap().seat(), seat);
     }
-    assert!(rt; trail.get(40).is_none() && trail.get(45).is_none());
+    assert!(rt; trail.get(first.saturating_add(4)).is_none());
+    assert!(rt; first == 0 || trail.get(first.saturating_sub(1)).is_none());
+    Ok(())
+}
+
+#[test]
+fn numbers_of_records(rt: HostRuntime) -> Result<(), Fail> {
+    for first in [0, 41, 4_294_967_294, 4_294_967_296, FIRST_LIMIT] {
+        check_numbers(&rt, rt.alloc(), first)?;
+    }
+    Ok(())
+}
+
+/// Of a record whose number has more than 32 bits, the line shows all of it.
+#[test]
+fn lines_of_large_numbers(rt: HostRuntime) -> Result<(), Fail> {
+    let heap = rt.alloc();
+    let mut trail = Trail::starting_at(heap, FIRST_LIMIT);
+    let entry = Record::new(1, refused(&rt, heap, Cause::Exists)?);
+    assert!(rt; trail.push(entry).is_ok());
+    let line = trail.json_line(heap, FIRST_LIMIT);
+    assert!(rt; line.is_ok());
+    let line = line.unwrap();
+    assert!(rt;
+        line.as_str().contains("\"number\":4611686018427387904,"),
+        "{line}"
+    );
+    assert!(rt; matches!(trail.json_line(heap, 0), Err(TrailFault::NoRecord)));
     Ok(())
 }

@@ -127,7 +127,7 @@ pub struct PlainWorld {
     pub next_look: u64,
     pub drafts: Vec<Draft>,
     pub next_draft: u64,
-    pub first: u32,
+    pub first: u64,
     pub records: u32,
 }
 

@@ -153,7 +153,8 @@ fn feature(rt: &impl Abort, mark: &Mark) -> Feature {
 /// Checks that the newest record is that of this seat and this deed.
 fn check_newest(rt: &impl Abort, world: &World<Global>, seat: u32, deed: Deed<Global>) {
     let trail = world.trail();
-    let found = trail.get(trail.first().saturating_add(trail.len()).saturating_sub(1));
+    let behind = trail.first().saturating_add(u64::from(trail.len()));
+    let found = trail.get(behind.saturating_sub(1));
     assert!(rt; found.is_some());
     assert!(rt; **found.unwrap() == Record::new(seat, deed));
 }
@@ -677,7 +678,7 @@ fn try_roll(
             assert_eq!(rt; piece.trail().first(), plain.first);
             assert_eq!(rt; piece.lines().len(), plain.records as usize);
             check_marks(rt, piece.base().features.as_slice(), plain.base.as_slice());
-            plain.first = plain.first.saturating_add(plain.records);
+            plain.first = plain.first.saturating_add(u64::from(plain.records));
             plain.records = 0;
             plain.base.clear();
             assert!(rt; plain.base.extend_from_slice(plain.marks.as_slice()).is_ok());

@@ -12,7 +12,7 @@ use std::alloc::Global;
 use std::process::Abort;
 use world::{
     Advance, CHANGE_LIMIT, Fault, Limits, Outcome, ROLLED_LIMIT, SEARCH_LIMIT, SEAT_LIMIT,
-    STEP_LIMIT, Starts, Step, TRANSACTION_LIMIT, TreeFault, Visit, World,
+    STEP_LIMIT, Starts, Step, TRANSACTION_LIMIT, TreeFault, USUAL_FEATURES, Visit, World,
 };
 
 /// The line of the record of `add_mast`.
@@ -152,7 +152,7 @@ fn find_nothing(rt: &impl Abort, world: &mut World<Global>) {
 
 /// The trail can be rolled while it is empty, but not once it has a record.
 fn roll_in_vain(rt: &impl Abort, heap: Global, world: &mut World<Global>) {
-    assert!(rt; world.trail().first() == 4_293_918_720);
+    assert!(rt; world.trail().first() == 4_611_686_018_427_387_904);
     check_rolled(rt, heap, world, &[]);
     find_nothing(rt, world);
     let before = picture(rt, heap, world);
@@ -306,8 +306,14 @@ fn check_placed(rt: &impl Abort, world: &mut World<Global>, count: u64) {
 fn limits_of_every_world(rt: HostRuntime) {
     assert_eq!(rt; (LIMIT, LISTED_LIMIT), (10_000_000, 64));
     assert_eq!(rt; (SUBJECT_LIMIT, ZONE_LIMIT), (64, 64));
-    assert_eq!(rt; (FEATURE_LIMIT, RECORD_LIMIT), (100_000, 1_048_576));
-    assert_eq!(rt; (FIRST_LIMIT, ROLLED_LIMIT), (4_293_918_720, 4_293_918_719));
+    assert_eq!(rt; (FEATURE_LIMIT, USUAL_FEATURES), (4_000_000, 100_000));
+    assert_eq!(rt;
+        (Limits::USUAL.features, Limits::GREATEST.features),
+        (100_000, 4_000_000)
+    );
+    assert_eq!(rt; RECORD_LIMIT, 1_048_576);
+    assert_eq!(rt; FIRST_LIMIT, 4_611_686_018_427_387_904);
+    assert_eq!(rt; ROLLED_LIMIT, 4_611_686_018_427_387_903);
     assert_eq!(rt; (SEAT_LIMIT, SEARCH_LIMIT), (1_024, 16));
     assert_eq!(rt; (TRANSACTION_LIMIT, CHANGE_LIMIT), (64, 16));
     assert_eq!(rt; STEP_LIMIT, 1_000_000);

@@ -8,7 +8,7 @@ use refusing::Refusing;
 use std::alloc::{Allocator, Global};
 use std::process::Abort;
 use std::test::Fail;
-use world::{Base, Fault, Outcome, Starts, World};
+use world::{Base, Fault, Limits, Outcome, Starts, World};
 
 /// How many lists of four features the first world begins with.
 const LISTS: u64 = 12;
@@ -73,7 +73,7 @@ fn state_of<A: Allocator + Copy>(rt: &impl Abort, world: &World<A>) -> Base<A> {
 /// seats.
 fn reopened(rt: &impl Abort, heap: Global, world: &World<Global>) -> World<Global> {
     let trail = world.trail();
-    let next = trail.first().saturating_add(trail.len());
+    let next = trail.first().saturating_add(u64::from(trail.len()));
     let starts = Starts {
         rolled: next.saturating_sub(1),
         ..STARTS
@@ -123,7 +123,7 @@ fn go_on(rt: &impl Abort, heap: Global, world: &mut World<Global>) {
 }
 
 /// The records of a world from this number on, as lines.
-fn lines_from(rt: &impl Abort, heap: Global, world: &World<Global>, first: u32) -> String {
+fn lines_from(rt: &impl Abort, heap: Global, world: &World<Global>, first: u64) -> String {
     let mut told = String::new(heap);
     put_lines(rt, heap, world, first, &mut told);
     told
@@ -180,6 +180,67 @@ fn each_allocation_of_an_opening_refused(rt: HostRuntime) -> Result<(), Fail> {
         }
     }
     assert!(&rt; false, "each allocation was refused");
+    Ok(())
+}
+
+/// The numbers of records pass 32 bits, over a roll too.
+#[test]
+fn numbers_beyond_32_bits(rt: HostRuntime) -> Result<(), Fail> {
+    let heap = rt.alloc();
+    let starts = Starts {
+        rolled: 4_294_967_294,
+        ..STARTS
+    };
+    let mut world = seated(&rt, heap, heap, OPEN, starts, LIMITS);
+    commit(&rt, &mut world, 1, &four(&rt, 0), Some(1));
+    assert!(&rt; found(&rt, &mut world, 1, square(&rt, 0, 9)).rows().len() == 4);
+    let told = lines_from(&rt, heap, &world, 4_294_967_295);
+    assert!(&rt; told.as_str().contains("\"number\":4294967295,"));
+    assert!(&rt; told.as_str().contains("\"number\":4294967296,"));
+    assert!(&rt; world.roll(heap, 3).is_ok() && world.trail().first() == 4_294_967_297);
+    commit(&rt, &mut world, 1, &four(&rt, 4), Some(2));
+    let second = reopened(&rt, heap, &world);
+    assert!(&rt; second.trail().first() == 4_294_967_298 && second.len() == 8);
+    Ok(())
+}
+
+/// A world that begins at a state with more features than its limit takes lists that leave no more
+/// than there are.
+#[test]
+fn more_features_than_the_limit(rt: HostRuntime) -> Result<(), Fail> {
+    let heap = rt.alloc();
+    let mut first = seated(&rt, heap, heap, OPEN, STARTS, LIMITS);
+    commit(&rt, &mut first, 1, &four(&rt, 0), Some(1));
+    let limits = Limits {
+        features: 2,
+        ..LIMITS
+    };
+    let base = state_of(&rt, &first);
+    let opened = World::open_from(heap, subjects(&rt), base, STARTS, limits);
+    assert!(&rt; opened.is_ok());
+    let mut world = opened.unwrap();
+    give_seats(&rt, &mut world);
+    let moved = Change::Reshape {
+        id: 1,
+        version: 1,
+        shape: point(&rt, 7, 7),
+    };
+    let gone = Change::Delete { id: 2, version: 1 };
+    commit(&rt, &mut world, 1, &[moved], Some(2));
+    let number = placed(&rt, &mut world, 1, &[add(&rt, 9, "road", 9)]);
+    assert!(&rt; matches!(world.commit(1, number), Err(Fault::StoreFull)));
+    commit(&rt, &mut world, 2, &[gone, add(&rt, 9, "road", 9)], Some(3));
+    commit(
+        &rt,
+        &mut world,
+        2,
+        &[Change::Delete { id: 3, version: 1 }],
+        Some(4),
+    );
+    assert!(&rt; matches!(world.commit(1, number), Ok(Outcome::Refused(_, _))));
+    let number = placed(&rt, &mut world, 1, &[add(&rt, 10, "road", 9)]);
+    assert!(&rt; matches!(world.commit(1, number), Err(Fault::StoreFull)));
+    assert!(&rt; world.len() == 3);
     Ok(())
 }
 

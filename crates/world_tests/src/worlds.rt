@@ -241,11 +241,11 @@ pub fn put_lines<A: Allocator>(
     rt: &impl Abort,
     heap: Global,
     world: &World<A>,
-    first: u32,
+    first: u64,
     told: &mut String,
 ) {
     let trail = world.trail();
-    for number in first..trail.first().saturating_add(trail.len()) {
+    for number in first..trail.first().saturating_add(u64::from(trail.len())) {
         let line = trail.json_line(heap, number);
         assert!(rt; line.is_ok());
         assert!(rt; told.push_str(line.unwrap().as_str()).is_ok() && told.push('\n').is_ok());

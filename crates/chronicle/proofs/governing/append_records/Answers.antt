@@ -12,7 +12,7 @@ loop-index-preserved g c =
     let index = c.loop-index.index in
     let owner = c.in_ok-another.field-0 in
     let r : RecordData = arc_value c.in-Some.record.now in
-    let there = numbered trail (c.first.result + index) index (Some r) (omega (arith, c.first.ensures.value)) c.in-Some.ensures.value in
+    let there = numbered trail (c.first.result + c.from.result) index (Some r) (omega (arith, c.first.ensures.value, c.from.ensures)) c.in-Some.ensures.value in
     let grown = c.push_reserved.ensures.items ∙ ap (λ xs. xs ++ owner ∷ []) c.make_slot.ensures.items in
     record {
       appended = ap (map arc_value) grown ∙ one_appended arc_value before old owner trail.records index r c.loop-index.invariant.appended there c.in_ok-another.ensures;

@@ -16,4 +16,5 @@ returns c =
     ) in
     let one = adds _ _ _ _ c.option_argument.result named c.option_argument.ensures c.in_ok-arg.ensures in
     let two = adds _ _ _ _ c.option_argument-2.result one c.option_argument-2.ensures c.in_ok-arg-2.ensures in
-    IfOk-weaker c.arg-3.result _ _ (λ command h. adds _ _ _ command c.place_argument.result two c.place_argument.ensures h) c.arg-3.ensures
+    let three = adds _ _ _ _ c.features_argument.result two c.features_argument.ensures c.in_ok-arg-3.ensures in
+    IfOk-weaker c.arg-4.result _ _ (λ command h. adds _ _ _ command c.place_argument.result three c.place_argument.ensures h) c.arg-4.ensures

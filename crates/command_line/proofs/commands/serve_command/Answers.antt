@@ -37,4 +37,8 @@ returns c =
     let six = adds _ _ _ _ c.flag_argument.result five c.flag_argument.ensures c.in_ok-arg-6.ensures in
     let seven = adds _ _ _ _ c.flag_argument-2.result six c.flag_argument-2.ensures c.in_ok-arg-7.ensures in
     let eight = adds _ _ _ _ c.option_argument-5.result seven c.option_argument-5.ensures c.in_ok-arg-8.ensures in
-    IfOk-weaker c.arg-9.result _ _ (λ command h. adds _ _ _ command c.option_argument-6.result eight c.option_argument-6.ensures h) c.arg-9.ensures
+    let nine = adds _ _ _ _ c.option_argument-6.result eight c.option_argument-6.ensures c.in_ok-arg-9.ensures in
+    let ten = adds _ _ _ _ c.option_argument-7.result nine c.option_argument-7.ensures c.in_ok-arg-10.ensures in
+    let eleven = adds _ _ _ _ c.option_argument-8.result ten c.option_argument-8.ensures c.in_ok-arg-11.ensures in
+    let twelve = adds _ _ _ _ c.http_workers_argument.result eleven c.http_workers_argument.ensures c.in_ok-arg-12.ensures in
+    IfOk-weaker c.arg-13.result _ _ (λ command h. adds _ _ _ command c.features_argument.result twelve c.features_argument.ensures h) c.arg-13.ensures

@@ -3,7 +3,7 @@ use Rattle.std.specs.Prelude.{option_and_then}
 use Rattle.clap.proofs.WalkLemmas.{first_value-rows}
 use Rattle.clap.specs.Words.{Text, first_of, first_value, found_of, rows_of}
 use Rattle.command_line.specs.CommandLine.{action_named}
-use Rattle.command_line.proofs.AskedLemmas.{features_rule, store_has_needed}
+use Rattle.command_line.proofs.AskedLemmas.{store_has_needed, stored_rule}
 use Rattle.command_line.proofs.NumberLemmas.{flag_found}
 use Rattle.command_line.proofs.stores.asked_store.Goals as goal
 
@@ -29,7 +29,7 @@ returns-in-Some-action_named c =
     record {
       action = ap (option_and_then action_named) (read (codes "ACTION") ∙ sym c.in-Some.ensures) ∙ sym c.in-Some-action_named.ensures;
       folder = read (codes "DIR") ∙ sym c.in-Some-get_str.ensures;
-      features = flag_found features_rule refl found needs.features c.get_flag.result c.get_flag.ensures.none c.get_flag.ensures.value c.get_flag.ensures.other;
+      features = flag_found stored_rule refl found needs.features c.get_flag.result c.get_flag.ensures.none c.get_flag.ensures.value c.get_flag.ensures.other;
     }
 
 pub returns-in-None : goal.returns-in-None

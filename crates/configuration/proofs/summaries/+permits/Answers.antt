@@ -1,6 +1,6 @@
-use Rattle.std.proofs.Common.{◌≡◌, ◌∙◌, Bool, List, ◌++◌, OnOk, ap, map, subst, sym}
+use Rattle.std.proofs.Common.{◌≡◌, ◌∙◌, Bool, List, ◌++◌, OnOk, ap, subst, sym}
 use Rattle.policy_documents.specs.Views.{node_view}
-use Rattle.configuration.specs.Summaries.{is_permit, node_permits}
+use Rattle.configuration.specs.Summaries.{node_permits}
 use Rattle.configuration.proofs.PermitLemmas.{policy_permits, set_permits}
 use Rattle.configuration.proofs.summaries.+permits.Goals as goal
 

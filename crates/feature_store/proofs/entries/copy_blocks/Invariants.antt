@@ -1,4 +1,4 @@
-use Rattle.std.proofs.Common.{◌≡◌, ◌+◌, ◌<◌, ◌≤◌, ◌++◌, length, drop, vec_len, vec_capacity}
+use Rattle.std.proofs.Common.{◌≡◌, ◌<◌, ◌++◌, length, drop}
 use Rattle.std.specs.List.{All}
 use Rattle.feature_store.specs.Blocks.{entries_of, places_in}
 use Rattle.feature_store.specs.Tables.{rows_at}
@@ -7,6 +7,5 @@ use Rattle.feature_store.proofs.entries.copy_blocks.Given as goal
 abbrev pub invariant-loop-block : goal.invariant-loop-block
 invariant-loop-block g l = record {
   in_range : All (λ place. place < length l.features) (places_in (entries_of (drop l.block-index l.blocks)));
-  room : vec_len l.rows + length (entries_of (drop l.block-index l.blocks)) ≤ vec_capacity l.rows;
   told : l.rows.items ++ rows_at (places_in (entries_of (drop l.block-index l.blocks))) l.features ≡ l.fn.rows.items ++ rows_at (places_in (entries_of l.blocks)) l.features;
 }

@@ -5,8 +5,8 @@ use Rattle.features.specs.Rows.{feature_with, with_row}
 use Rattle.plain_world.proofs.StoredLemmas.{absent_before, put_next}
 use Rattle.plain_world.proofs.worlds.stored.Goals as goal
 
-pub apply-requires : goal.apply-requires
-apply-requires g c =
+pub apply-requires-clause-can : goal.apply-requires-clause-can
+apply-requires-clause-can g c =
     let rows = c.args.rows.now in
     let k = c.loop-row.row-index in
     let there = slice_get_read rows (length rows) k c.row-item.result refl (omega (arith, c.loop-row-test.true)) c.row-item.is in

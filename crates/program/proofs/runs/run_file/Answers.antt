@@ -1,4 +1,5 @@
-use Rattle.std.proofs.Common.{Err, IfErr}
+use Rattle.std.proofs.Common.{◌∙◌, Err, IfErr, ap}
+use Rattle.plain_world.specs.States as states
 use Rattle.line_streams.proofs.LeavingLemmas.{left_by}
 use Rattle.program.proofs.RunLemmas.{came, of_run, served}
 use Rattle.configuration.specs.Configs.{config_data}
@@ -13,8 +14,8 @@ returns-in_err-end-clause-err g c =
     let after = g.W.Write.contents c.flush.new.writer in
     let fault = c.in_err-end.field-0.0 in
     let ran = c.in_err-end.ensures.ran in
-    let far = came opened (Err fault) c.in-Ok.world.plain ran.1 ran.0 script (g.R.Read.remaining c.run_script-end.new.reader) before (g.W.Write.contents c.run_script-end.new.writer) after c.in-Ok.ensures.ok ran.2 c.flush.ensures in
-    left_by c.from_residual-in_err-end.result _ (λ r. IfErr r (IsOfRun opened script before after)) c.from_residual-in_err-end.ensures.1 (of_run opened fault script before after far)
+    let far = came opened c.args.features.number (Err fault) c.in-Ok.world.plain ran.1 ran.0 script (g.R.Read.remaining c.run_script-end.new.reader) before (g.W.Write.contents c.run_script-end.new.writer) after (c.in-Ok.ensures.ok ∙ ap (states.opened _ _ _) c.limits.ensures.value) ran.2 c.flush.ensures in
+    left_by c.from_residual-in_err-end.result _ (λ r. IfErr r (IsOfRun opened c.args.features.number script before after)) c.from_residual-in_err-end.ensures.1 (of_run opened c.args.features.number fault script before after far)
 
 pub returns-in_err-flushed-clause-err : goal.returns-in_err-flushed-clause-err
 returns-in_err-flushed-clause-err g c =
@@ -24,9 +25,9 @@ returns-in_err-flushed-clause-err g c =
     let after = g.W.Write.contents c.flush.new.writer in
     let end = c.run_script-end.result in
     let ran = c.run_script-end.ensures.ran in
-    let far = came opened end c.in-Ok.world.plain ran.1 ran.0 script (g.R.Read.remaining c.run_script-end.new.reader) before (g.W.Write.contents c.run_script-end.new.writer) after c.in-Ok.ensures.ok ran.2 c.flush.ensures in
-    left_by c.from_residual.result _ (λ r. IfErr r (IsOfRun opened script before after)) c.from_residual.ensures.1 (end, far)
+    let far = came opened c.args.features.number end c.in-Ok.world.plain ran.1 ran.0 script (g.R.Read.remaining c.run_script-end.new.reader) before (g.W.Write.contents c.run_script-end.new.writer) after (c.in-Ok.ensures.ok ∙ ap (states.opened _ _ _) c.limits.ensures.value) ran.2 c.flush.ensures in
+    left_by c.from_residual.result _ (λ r. IfErr r (IsOfRun opened c.args.features.number script before after)) c.from_residual.ensures.1 (end, far)
 
 pub returns-clause-served : goal.returns-clause-served
 returns-clause-served g c =
-    served (config_data c.args.config) (g.R.Read.remaining c.args.file.now) (g.W.Write.contents c.args.output.now) (g.W.Write.contents c.run_script-end.new.writer) (g.W.Write.contents c.flush.new.writer) c.in-Ok.world.plain c.run_script-end.new.world.plain c.in-Ok.ensures.ok c.in_ok-end.ensures.script_text c.flush.ensures
+    served (config_data c.args.config) c.args.features.number (g.R.Read.remaining c.args.file.now) (g.W.Write.contents c.args.output.now) (g.W.Write.contents c.run_script-end.new.writer) (g.W.Write.contents c.flush.new.writer) c.in-Ok.world.plain c.run_script-end.new.world.plain (c.in-Ok.ensures.ok ∙ ap (states.opened _ _ _) c.limits.ensures.value) c.in_ok-end.ensures.script_text c.flush.ensures

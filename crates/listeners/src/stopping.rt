@@ -34,12 +34,12 @@ impl Stop {
     }
 
     /// Whether the server was told.
-    pub(crate) fn is_asked(&self) -> bool {
+    pub fn is_asked(&self) -> bool {
         self.asked.load(Ordering::SeqCst) != 0
     }
 
     /// Notes the socket on which the server listens from now on.
-    pub(crate) fn listens_on(&self, file: SocketFile) {
+    pub fn listens_on(&self, file: SocketFile) {
         let _ = self.socket.try_set(file);
     }
 
@@ -55,7 +55,7 @@ impl Stop {
 impl Stop {
     /// Tells the server to accept no more connections. If it listens at the path, connects to it
     /// once, so that it sees that, in place of waiting for a client.
-    pub(crate) fn wake<R: Files + Net>(&self, rt: &R, path: &str) {
+    pub fn wake<R: Files + Net>(&self, rt: &R, path: &str) {
         // A server notes its socket before it looks whether it is told, so either it sees that, or it
         // is found here.
         self.ask();

@@ -14,7 +14,7 @@ const LOCK_PAUSE: u64 = 10;
 /// Which file of a socket it is. A file that replaces another at the same path may get the number
 /// of the old one, but it is not as old.
 #[derive(Clone, Copy, Debug, PartialEq, Eq)]
-pub(crate) struct SocketFile {
+pub struct SocketFile {
     device: u64,
     number: u64,
     seconds: i64,
@@ -23,7 +23,7 @@ pub(crate) struct SocketFile {
 
 impl SocketFile {
     /// The file at the path; `None` if there is none, or it is no socket.
-    pub(crate) fn at<R: Files>(rt: &R, path: &str) -> Option<SocketFile> {
+    pub fn at<R: Files>(rt: &R, path: &str) -> Option<SocketFile> {
         let metadata = fs::symlink_metadata(rt, path).ok()?;
         if !metadata.file_type().is_socket() {
             return None;
@@ -62,7 +62,7 @@ pub(crate) fn locked_folder<R: Files<File = File> + Clock>(rt: &R, path: &str) -
 }
 
 /// Removes a server's own socket from its path. What has replaced it stays.
-pub(crate) fn remove_own<R: Files<File = File> + Clock>(rt: &R, path: &str, own: SocketFile) {
+pub fn remove_own<R: Files<File = File> + Clock>(rt: &R, path: &str, own: SocketFile) {
     let _locked = locked_folder(rt, path);
     if SocketFile::at(rt, path) == Some(own) {
         let _ = fs::remove_file(rt, path);

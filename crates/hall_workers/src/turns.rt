@@ -28,7 +28,7 @@ const OVER: u64 = 2;
 
 /// How long the turn of a hall lasts, among the halls of a server that follow one another.
 #[derive(Drop)]
-pub(crate) struct Turn {
+pub struct Turn {
     phase: AtomicU64,
     /// How many bytes of replies were written.
     written: AtomicU64,
@@ -44,7 +44,7 @@ pub(crate) struct Turn {
 
 impl Turn {
     /// A turn that has begun, and ends after so many records.
-    pub(crate) fn new(records: u64) -> Self {
+    pub fn new(records: u64) -> Self {
         Turn {
             phase: AtomicU64::new(HELD),
             written: AtomicU64::new(0),
@@ -61,7 +61,7 @@ impl Turn {
     }
 
     /// Whether each session is to be set aside.
-    pub(crate) fn is_over(&self) -> bool {
+    pub fn is_over(&self) -> bool {
         self.phase.load(Ordering::SeqCst) == OVER
     }
 
@@ -94,20 +94,25 @@ impl Turn {
             || self.lacks_seats(seats)
     }
 
+    /// Ends the turn at once.
+    pub fn end(&self) {
+        self.phase.store(OVER, Ordering::SeqCst);
+    }
+
     /// Notes that nobody new comes to the server.
-    pub(crate) fn close(&self) {
+    pub fn close(&self) {
         self.closing.store(1, Ordering::SeqCst);
     }
 
     /// Whether nobody new comes to the server.
-    pub(crate) fn is_closing(&self) -> bool {
+    pub fn is_closing(&self) -> bool {
         self.closing.load(Ordering::SeqCst) == 1
     }
 
     /// Ends the turn where there are many records or few seats, or where replies had many bytes: at
     /// first for the sessions whose clients are silent, and after `LOOKS` further looks for all. One
     /// thread looks.
-    pub(crate) fn look(&self, records: u64, seats: usize) {
+    pub fn look(&self, records: u64, seats: usize) {
         if self.is_ending() {
             let looks = self.looks.fetch_add(1, Ordering::SeqCst);
             if looks >= LOOKS {

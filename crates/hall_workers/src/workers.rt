@@ -1,6 +1,6 @@
 //! What each thread of a server does.
 
-use crate::keeping::{HallRecords, Lasting, barrier};
+use crate::lasting::{HallRecords, Lasting, barrier};
 use crate::turns::Turn;
 use byte_streams::let_go;
 use crossbeam_channel::{Receiver, RecvTimeoutError};
@@ -22,7 +22,7 @@ const PAUSE: u64 = 20;
 const PAUSES: u32 = 1_500;
 
 /// What a worker serves: a connection.
-pub(crate) trait Connection {
+pub trait Connection {
     /// Serves it to its end, or until it is set aside. `seats` are those of the worker's earlier
     /// sessions, `view` is the worker's.
     fn serve<'h, L: HallName, H: Wait + Drop, R: Wait + Log>(
@@ -100,7 +100,7 @@ impl<I: Read + Drop, O: Write + Drop, G: Pause + Drop> Connection for (I, O, G) 
 
 /// Serves connections, one after another, until no more come, and hands in the seats of their
 /// sessions. The sessions use the view in turn.
-pub(crate) fn work<'h, L: HallName, H: Wait + Drop, R: Wait + Log, T: Connection + Drop>(
+pub fn work<'h, L: HallName, H: Wait + Drop, R: Wait + Log, T: Connection + Drop>(
     rt: &R,
     heap: Global,
     hall: &'h Hall<L, H, Global>,
@@ -141,7 +141,7 @@ fn tend_once<L: HallName, H: Wait + Drop, R: Wait>(
 /// Tends in rounds, until the sender of `ends` is dropped. A round that is refused is the last, with
 /// a warning. Each time the desk, if there is one, takes over the records that nobody waits for, and
 /// the turn, if there is one, is told how many records there are.
-pub(crate) fn tend<L: HallName, H: Wait + Drop, R: Wait + Clock + Log>(
+pub fn tend<L: HallName, H: Wait + Drop, R: Wait + Clock + Log>(
     rt: &R,
     hall: &Hall<L, H, Global>,
     ends: Receiver<()>,

@@ -2,7 +2,7 @@
 
 ghost use Rattle.std.specs.Prelude.{◌≡◌, IfOk, length};
 
-use crate::keeping::{HallRecords, Lasting, barrier};
+use crate::lasting::{HallRecords, Lasting, barrier};
 use crate::turns::Turn;
 use crate::workers::Connection;
 use byte_streams::let_go;
@@ -32,7 +32,7 @@ const KEPT_LIMIT: usize = 16_777_216;
 
 /// A session between two reads of its stream: what a hall has to know to go on with it.
 #[derive(Drop)]
-pub(crate) struct Session {
+pub struct Session {
     stream: UnixStream,
     sitting: Sitting<Global>,
     /// The subject's name, from HELLO on.
@@ -57,11 +57,7 @@ enum Served {
 impl Session {
     /// A session that has not begun. Its reads and writes wait for `idle` seconds at most, each; 0
     /// and `None` set no bound.
-    pub(crate) fn new(
-        heap: Global,
-        stream: UnixStream,
-        idle: Option<u64>,
-    ) -> Result<Self, NoMemory> {
+    pub fn new(heap: Global, stream: UnixStream, idle: Option<u64>) -> Result<Self, NoMemory> {
         let patience = match idle {
             None => 0,
             Some(seconds) => seconds.saturating_mul(1_000),
@@ -198,7 +194,7 @@ impl Write for GuestWriter<'_> {
 /// The sessions that are set aside for the next hall. Those that had a worker get one again before
 /// the others.
 #[derive(Drop)]
-pub(crate) struct Aside {
+pub struct Aside {
     served: Vec<Session>,
     /// Those that waited for a worker, the first one first.
     queued: Vec<Session>,
@@ -206,7 +202,7 @@ pub(crate) struct Aside {
 
 impl Aside {
     /// No sessions.
-    pub(crate) fn none(heap: Global) -> Self {
+    pub fn none(heap: Global) -> Self {
         Aside {
             served: Vec::new(heap),
             queued: Vec::new(heap),
@@ -214,12 +210,12 @@ impl Aside {
     }
 
     /// Whether there are none.
-    pub(crate) fn is_empty(&self) -> bool {
+    pub fn is_empty(&self) -> bool {
         self.served.is_empty() && self.queued.is_empty()
     }
 
     /// Turns those that waited around, so that `next` gives the first of them first.
-    pub(crate) fn in_order(self) -> Self {
+    pub fn in_order(self) -> Self {
         let Aside { served, queued } = self;
         let mut queued = queued;
         queued.reverse();
@@ -227,7 +223,7 @@ impl Aside {
     }
 
     /// One that had a worker; else one that waited.
-    pub(crate) fn next(&mut self) -> Option<Session> {
+    pub fn next(&mut self) -> Option<Session> {
         match self.served.pop() {
             Some(session) => Some(session),
             None => self.queued.pop(),
@@ -249,10 +245,10 @@ impl Aside {
 
 /// A session that a hall serves while its turn lasts.
 #[derive(Drop)]
-pub(crate) struct Guest<'t> {
-    pub(crate) session: Session,
-    pub(crate) turn: &'t Turn,
-    pub(crate) aside: &'t Mutex<Aside>,
+pub struct Guest<'t> {
+    pub session: Session,
+    pub turn: &'t Turn,
+    pub aside: &'t Mutex<Aside>,
 }
 
 /// Sets a session aside for the next hall.

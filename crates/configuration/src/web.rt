@@ -1,0 +1,237 @@
+//! What a configuration says of HTTP.
+
+ghost use Rattle.std.specs.Prelude.{◌≡◌, bytes_eq, codes, option_map, string_bytes};
+ghost use Rattle.std.specs.List.{list_all, list_any};
+ghost use Rattle.std.specs.Option.{ok_or};
+ghost use Rattle.serde_json.specs.View.{items_view, view};
+ghost use Rattle.configuration.specs.ConfigFaults.{Gives};
+ghost use Rattle.configuration.specs.Configs.{anonymous_member, collections_in, collections_member, names_in, public_member, web_data, web_in};
+ghost use Rattle.configuration.specs.Web.{are_collections, are_distinct, behind_scheme, is_beginning, is_host_byte, is_host, name_at, public_at, subject_at};
+ghost use Rattle.configuration.specs.declared.config_faults.ConfigFault.TheVariants.{Form};
+
+use crate::config_faults::ConfigFault;
+use crate::fields::{MemberName, value_in};
+use features::{Name, Subjects};
+use memory::{GrowVec, text};
+use serde_json::Value;
+use std::alloc::Allocator;
+
+/// The most collections.
+pub const COLLECTION_LIMIT: usize = 64;
+
+/// The most bytes behind `http://` or `https://` of what links begin with.
+pub const PUBLIC_LIMIT: usize = 200;
+
+/// The collection of all features, which no class may be called.
+pub(crate) const ALL_FEATURES: &str = "features";
+
+/// What a configuration says of HTTP.
+#[derive(Debug, Drop)]
+pub struct Web<A: Allocator> {
+    /// The subject of requests that do not say who asks; `None` if those are refused.
+    pub anonymous: Option<Name>,
+    /// What links begin with; `None` for the address at which HTTP is answered.
+    pub public: Option<String<A>>,
+    /// The classes that are collections.
+    pub collections: Vec<Name, A>,
+}
+
+/// The name that a value spells.
+fn name_at(value: &Value) -> Option<Name>
+    ensures { result ≡ name_at (view value.now) }
+{
+    Name::new(value.as_str()?.as_bytes())
+}
+
+/// The name of a subject that a value spells.
+fn subject_at(subjects: &Subjects, value: &Value) -> Option<Name>
+    ensures { result ≡ subject_at subjects.now (view value.now) }
+{
+    let subject = subjects.get(name_at(value)?)?;
+    Some(subject.name)
+}
+
+/// The subject under the key, if there is one.
+fn anonymous_member(subjects: &Subjects, value: Option<&Value>) -> Result<Option<Name>, ConfigFault>
+    ensures { result ≡ anonymous_member subjects.now (option_map (λ v. view v.now) value.entry) }
+{
+    let Some(value) = value else {
+        return Ok(None);
+    };
+    match subject_at(subjects, value) {
+        Some(name) => Ok(Some(name)),
+        None => Err(ConfigFault::Form),
+    }
+}
+
+/// Whether a byte may stand in what links begin with.
+fn is_host_byte(byte: u8) -> bool
+    ensures { result ≡ is_host_byte byte }
+{
+    match byte {
+        b'"' | b'#' | b'<' | b'>' | b'?' | b'\\' => false,
+        b'!'..=b'~' => true,
+        _ => false,
+    }
+}
+
+/// Whether these bytes may stand in what links begin with.
+fn are_host_bytes(text: &[u8]) -> bool
+    ensures { result ≡ list_all is_host_byte text.now }
+{
+    text.iter().all(|byte| is_host_byte(*byte))
+}
+
+/// Whether this may stand behind `http://` or `https://`.
+fn is_host(text: &[u8]) -> bool
+    ensures { result ≡ is_host text.now }
+{
+    !text.is_empty() && text.len() <= PUBLIC_LIMIT && are_host_bytes(text) && !text.ends_with(b"/")
+}
+
+/// What stands behind a scheme in a text that begins with it.
+fn behind_scheme<'t>(scheme: &[u8], text: &'t [u8]) -> Option<&'t [u8]>
+    ensures { option_map (λ rest. rest.now) result ≡ behind_scheme scheme.now text.now }
+{
+    text.strip_prefix(scheme)
+}
+
+/// Whether links may begin with a text.
+fn is_beginning(text: &[u8]) -> bool
+    ensures { result ≡ is_beginning text.now }
+{
+    if let Some(host) = behind_scheme(b"https://", text) {
+        return is_host(host);
+    }
+    match behind_scheme(b"http://", text) {
+        Some(host) => is_host(host),
+        None => false,
+    }
+}
+
+/// The text that a value spells, if links may begin with it.
+pub(crate) fn public_at(value: &Value) -> Option<&str>
+    ensures { option_map (λ text. text.now) result ≡ public_at (view value.now) }
+{
+    let text = value.as_str()?;
+    if is_beginning(text.as_bytes()) {
+        Some(text)
+    } else {
+        None
+    }
+}
+
+/// What links begin with, if something is under the key.
+fn public_member<A: Allocator>(
+    alloc: A,
+    value: Option<&Value>,
+) -> Result<Option<String<A>>, ConfigFault>
+    ensures { Gives (option_map (λ text. string_bytes text)) result
+        (public_member (option_map (λ v. view v.now) value.entry)) }
+{
+    let Some(value) = value else {
+        return Ok(None);
+    };
+    let Some(given) = public_at(value) else {
+        return Err(ConfigFault::Form);
+    };
+    let public = text(alloc, given)?;
+    Ok(Some(public))
+}
+
+/// The names of an array, in order.
+fn names_in<A: Allocator>(alloc: A, items: &[Value]) -> Result<Vec<Name, A>, ConfigFault>
+    ensures { Gives (λ names. names.items) result (names_in (items_view items.now)) }
+{
+    let mut names = Vec::new(alloc);
+    for value in items {
+        let Some(name) = name_at(value) else {
+            return Err(ConfigFault::Form);
+        };
+        names.try_push(name)?;
+    }
+    Ok(names)
+}
+
+/// Whether none of these names stands twice.
+fn are_distinct(names: &[Name]) -> bool
+    ensures { result ≡ are_distinct names.now }
+{
+    let mut rest = names;
+    while let Some((first, others)) = rest.split_first() {
+        if others.contains(first) {
+            return false;
+        }
+        rest = others;
+    }
+    true
+}
+
+/// Whether a name is that of the collection of all features.
+fn is_all(name: &Name) -> bool
+    ensures { result ≡ bytes_eq name.now (codes "features") }
+{
+    name.as_bytes() == ALL_FEATURES.as_bytes()
+}
+
+/// Whether the name of the collection of all features is among these.
+fn is_all_among(names: &[Name]) -> bool
+    ensures { result ≡ list_any (λ name. bytes_eq name (codes "features")) names.now }
+{
+    names.iter().any(|name| is_all(name))
+}
+
+/// Whether these names may be collections.
+fn are_collections(names: &[Name]) -> bool
+    ensures { result ≡ are_collections names.now }
+{
+    names.len() <= COLLECTION_LIMIT && !is_all_among(names) && are_distinct(names)
+}
+
+/// The collections of an array.
+fn collections_in<A: Allocator>(alloc: A, items: &[Value]) -> Result<Vec<Name, A>, ConfigFault>
+    ensures { Gives (λ names. names.items) result (collections_in (items_view items.now)) }
+{
+    let names = names_in(alloc, items)?;
+    if are_collections(names.as_slice()) {
+        Ok(names)
+    } else {
+        Err(ConfigFault::Form)
+    }
+}
+
+/// The collections under the key; none, if nothing is there.
+fn collections_member<A: Allocator>(
+    alloc: A,
+    value: Option<&Value>,
+) -> Result<Vec<Name, A>, ConfigFault>
+    ensures { Gives (λ names. names.items) result
+        (collections_member (option_map (λ v. view v.now) value.entry)) }
+{
+    let Some(value) = value else {
+        return Ok(Vec::new(alloc));
+    };
+    match value.as_array() {
+        Some(items) => collections_in(alloc, items.as_slice()),
+        None => Err(ConfigFault::Form),
+    }
+}
+
+/// What a configuration with these subjects says of HTTP.
+#[tactic(auto, unfolding(crate::specs::Configs::web_in))]
+pub(crate) fn web_in<A: Allocator + Copy>(
+    alloc: A,
+    subjects: &Subjects,
+    value: &Value,
+) -> Result<Web<A>, ConfigFault>
+    ensures { Gives web_data result (web_in subjects.now (view value.now)) }
+{
+    let anonymous = anonymous_member(subjects, value_in(value, MemberName::Anonymous))?;
+    let public = public_member(alloc, value_in(value, MemberName::Public))?;
+    let collections = collections_member(alloc, value_in(value, MemberName::Collections))?;
+    Ok(Web {
+        anonymous,
+        public,
+        collections,
+    })
+}
