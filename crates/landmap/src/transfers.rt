@@ -493,10 +493,15 @@ fn sent_import(
         writer,
         pause: Rest { rt },
     };
-    let plan = Plan {
-        done: settled_rows(rt, paths.done.as_str()),
-        ..plan
-    };
+    let done = settled_rows(rt, paths.done.as_str());
+    if done > 0 {
+        let path = paths.done.as_str();
+        let _ = write!(
+            errors,
+            "landmap: goes on behind row {done}, as {path} says\n"
+        );
+    }
+    let plan = Plan { done, ..plan };
     let end = imported(rt, plan, paths, true, input, &mut server, errors);
     let Server {
         peer: _peer,
