@@ -18,6 +18,8 @@ import time
 TOP = os.path.dirname(os.path.dirname(os.path.dirname(os.path.abspath(__file__))))
 HERE = os.path.dirname(os.path.abspath(__file__))
 SIZE = 10_000_000
+# How many features a server takes where no option says more.
+USUAL = 100_000
 
 
 def square(chance, part):
@@ -126,8 +128,9 @@ def main():
     for name in ("answerer", "asker"):
         subprocess.run(["cc", "-O2", "-pthread", "-o", os.path.join(WORK, name), os.path.join(HERE, name + ".c")], check=True)
     path = os.path.join(WORK, "landmap.sock")
+    more = ["--features", str(2 * arguments.features)] if arguments.features > USUAL else []
     server = subprocess.Popen([arguments.program, "serve", "--socket", path, "--connections", "1024",
-                               "--workers", str(arguments.workers)], stdout=subprocess.PIPE, text=True)
+                               "--workers", str(arguments.workers)] + more, stdout=subprocess.PIPE, text=True)
     assert server.stdout.readline() == f"listening {path}\n"
     print(f"memory of a server with no features: {ticks(server)[1]} KiB")
     load(path, arguments.features)

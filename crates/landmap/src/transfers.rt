@@ -158,8 +158,12 @@ impl Pause for Rest<'_> {
 #[derive(Drop)]
 struct FileBooks<'a> {
     rt: &'a HostRuntime,
-    /// The file of the number of settled rows; `None` where it is not kept.
-    done: Option<File>,
+    /// The path of the number of settled rows; `None` where it is not kept.
+    done: Option<&'a str>,
+    /// How many rows were settled at the start.
+    begun: u64,
+    /// The file at that path, from the first rows on that are settled.
+    file: Option<File>,
     refused: File,
     errors: Stderr,
     /// Whether the progress is shown.
@@ -198,8 +202,14 @@ impl Books for FileBooks<'_> {
 
     fn settle(&mut self, rows: u64, totals: &Totals) -> Result<(), BooksFault> {
         self.show(totals);
-        let Some(file) = &self.done else {
+        let Some(path) = self.done else {
             return Ok(());
+        };
+        if self.file.is_none() {
+            self.file = Some(done_file(self.rt, path, self.begun)?);
+        }
+        let Some(file) = &self.file else {
+            return Err(BooksFault);
         };
         match file.write_all_at(progress_text(rows).as_slice(), 0) {
             Ok(()) => Ok(()),
@@ -344,17 +354,15 @@ fn imported<S: Sink>(
         let path = paths.refused.as_str();
         return Err(tell_line(format_args!("landmap: cannot keep {path}\n"), errors));
     };
-    let done = if keeps {
-        match done_file(rt, paths.done.as_str(), plan.done) {
-            Ok(file) => Some(file),
-            Err(_) => return Err(tell_import(&ImportFault::Books, plan.done, paths, errors)),
-        }
-    } else {
-        None
-    };
     let mut books = FileBooks {
         rt,
-        done,
+        done: if keeps {
+            Some(paths.done.as_str())
+        } else {
+            None
+        },
+        begun: plan.done,
+        file: None,
         refused,
         errors: rt.stderr(),
         shows: keeps && rt.stderr().is_terminal(),
@@ -485,10 +493,15 @@ fn sent_import(
         writer,
         pause: Rest { rt },
     };
-    let plan = Plan {
-        done: settled_rows(rt, paths.done.as_str()),
-        ..plan
-    };
+    let done = settled_rows(rt, paths.done.as_str());
+    if done > 0 {
+        let path = paths.done.as_str();
+        let _ = write!(
+            errors,
+            "landmap: goes on behind row {done}, as {path} says\n"
+        );
+    }
+    let plan = Plan { done, ..plan };
     let end = imported(rt, plan, paths, true, input, &mut server, errors);
     let Server {
         peer: _peer,
