@@ -11,6 +11,8 @@ pub enum Status {
     NotModified,
     /// 400: the request is at fault.
     BadRequest,
+    /// 401: who asks has to say who they are, and has not shown it.
+    Unauthorized,
     /// 403: who asks may not.
     Forbidden,
     /// 404: there is no such page or feature, or none that this subject may read.
@@ -38,6 +40,7 @@ impl Status {
             Status::Success => 200,
             Status::NotModified => 304,
             Status::BadRequest => 400,
+            Status::Unauthorized => 401,
             Status::Forbidden => 403,
             Status::NotFound => 404,
             Status::MethodNotAllowed => 405,
@@ -56,6 +59,7 @@ impl Status {
             Status::Success => "OK",
             Status::NotModified => "Not Modified",
             Status::BadRequest => "Bad Request",
+            Status::Unauthorized => "Unauthorized",
             Status::Forbidden => "Forbidden",
             Status::NotFound => "Not Found",
             Status::MethodNotAllowed => "Method Not Allowed",

@@ -34,21 +34,30 @@ trimmed (one ∷ next ∷ rest) =
 abbrev pub next_number : ℕ → ℕ
 next_number given = min (given + 1) (2 ^ 64 - 1)
 
--- one more answer is kept, under the next number
-pub record IsKept {A : Type 0} (layer : Layer) (rows : List Feature) (old new : Kept A) : Type 0 where
+-- one more answer is kept for who has asked, under the next number
+pub record IsKept {A : Type 0} (layer : Layer) (asker : List ℕ) (rows : List Feature)
+    (old new : Kept A) : Type 0 where
   pub answer : KeptRows A
   pub number : answer.number ≡ next_number old.given
   pub layer_same : answer.layer ≡ layer
+  pub asker_same : answer.asker ≡ asker
   pub rows_same : answer.rows.items ≡ rows
   pub answers : new.answers.items ≡ trimmed (old.answers.items ++ answer ∷ [])
   pub given : new.given ≡ next_number old.given
 
--- the rows that are kept under a number, if they are of this collection
-abbrev pub rows_asked : {A : Type 0} → ℕ → Layer → List (KeptRows A) → Option (List Feature)
-rows_asked number layer [] = None
-rows_asked number layer (answer ∷ answers) =
-    if (answer.number == number) && same_layer answer.layer layer then Some answer.rows.items
-    else rows_asked number layer answers
+-- an answer was kept under this number, of this collection, for this subject
+abbrev pub is_asked : {A : Type 0} → ℕ → Layer → List ℕ → KeptRows A → Bool
+is_asked number layer asker answer =
+    (answer.number == number) && same_layer answer.layer layer && pointwise nat_eq answer.asker asker
+
+-- the rows that are kept under a number, if they are of this collection and were found for this
+-- subject
+abbrev pub rows_asked : {A : Type 0} → ℕ → Layer → List ℕ → List (KeptRows A)
+    → Option (List Feature)
+rows_asked number layer asker [] = None
+rows_asked number layer asker (answer ∷ answers) =
+    if is_asked number layer asker answer then Some answer.rows.items
+    else rows_asked number layer asker answers
 
 -- the same answers are kept
 abbrev pub SameKept : {A : Type 0} → Kept A → Kept A → Type 0

@@ -4,7 +4,7 @@ use Rattle.map_asks.specs.FaultCodes.{code_of as ask_code}
 use Rattle.map_answers.specs.Answers.{AnswerData}
 use Rattle.map_answers.specs.Problems.{problem_data, status_of_fault as ask_status}
 use Rattle.map_answers.specs.declared.statuses.Status.{Status}
-use Rattle.map_answers.specs.declared.statuses.Status.TheVariants.{Forbidden, NotFound, Gone, Internal, Unavailable}
+use Rattle.map_answers.specs.declared.statuses.Status.TheVariants.{Unauthorized, Forbidden, NotFound, Gone, Internal, Unavailable}
 use Rattle.plain_world.specs.FaultCodes.{fault_code}
 use Rattle.plain_world.specs.declared.faults.Fault.{Fault as WorldFault}
 use Rattle.plain_world.specs.declared.faults.Fault.TheVariants as world
@@ -74,6 +74,7 @@ code_of_reply _ = codes "reply"
 abbrev pub status_of : Refusal → Status
 status_of (refusals.Ask fault) = ask_status fault
 status_of refusals.Nobody = Forbidden
+status_of refusals.NoCredentials = Unauthorized
 status_of (refusals.Said reply) = status_of_reply reply
 status_of refusals.Misplaced = Internal
 status_of refusals.Absent = NotFound
@@ -83,6 +84,7 @@ status_of (refusals.Memory refused) = Unavailable
 abbrev pub code_of : Refusal → List ℕ
 code_of (refusals.Ask fault) = ask_code fault
 code_of refusals.Nobody = codes "H1"
+code_of refusals.NoCredentials = codes "H1"
 code_of (refusals.Said reply) = code_of_reply reply
 code_of refusals.Misplaced = codes "reply"
 code_of refusals.Absent = codes "absent"

@@ -1,7 +1,7 @@
-//! Who asks, and what a session finds for them.
+//! For whom a session asks, and what it finds for them.
 
 ghost use Rattle.std.specs.Prelude.{◌≡◌};
-ghost use Rattle.map_sessions.specs.Finding.{Finds, Greets, Searches, found_rows, greeted, rows_seen, shape_rows};
+ghost use Rattle.map_sessions.specs.Finding.{Begins, BeginsAnew, Finds, Greets, Searches, found_rows, greeted, parted, rows_seen, shape_rows};
 
 use crate::refusals::Refusal;
 use features::{Feature, Name};
@@ -21,18 +21,46 @@ fn greeted(reply: Reply) -> Result<(), Refusal>
     }
 }
 
-/// Begins the session of those who do not say who they are, if it has not begun. Refused by
-/// `Nobody` where no subject is named for them, and by what the session says in place of `hello`.
-fn greet<S: Service>(service: &mut S, anonymous: Option<Name>) -> Result<(), Refusal>
-    ensures { Greets S.subject_of S.serves anonymous service.old service.new result }
+/// What follows from the reply to a session that ends.
+fn parted(reply: Reply) -> Result<(), Refusal>
+    ensures { result ≡ parted reply }
 {
-    let Some(name) = anonymous else {
-        return Err(Refusal::Nobody);
+    match reply {
+        Reply::Bye => Ok(()),
+        other => Err(Refusal::Said(other)),
+    }
+}
+
+/// Begins the session for a subject.
+fn begin<S: Service>(service: &mut S, asker: &Name) -> Result<(), Refusal>
+    ensures { Begins S.serves asker.now service.old service.new result }
+{
+    greeted(service.hello(*asker))
+}
+
+/// Ends the session, and begins it for a subject.
+fn begin_anew<S: Service>(service: &mut S, asker: &Name) -> Result<(), Refusal>
+    ensures { BeginsAnew S.serves asker.now service.old service.new result }
+{
+    match parted(service.leave()) {
+        Ok(()) => begin(service, asker),
+        Err(refusal) => Err(refusal),
+    }
+}
+
+/// Has the session ask for a subject: it begins where it has not begun, stays where it asks for them
+/// already, and ends first where it asks for somebody else. Refused by what the session says in
+/// place of `hello`, or of `bye`.
+fn greet<S: Service>(service: &mut S, asker: &Name) -> Result<(), Refusal>
+    ensures { Greets S.subject_of S.serves asker.now service.old service.new result }
+{
+    let Some(subject) = service.subject() else {
+        return begin(service, asker);
     };
-    if service.subject().is_some() {
+    if subject.name == *asker {
         return Ok(());
     }
-    greeted(service.hello(name))
+    begin_anew(service, asker)
 }
 
 /// What a search lists. Refused by what the session says in its place.
@@ -46,17 +74,16 @@ fn search<S: Service>(service: &mut S, window: Shape) -> Result<Found<S::Memory>
     }
 }
 
-/// What is found in a window for those who do not say who they are; nothing is searched where the
-/// window is nothing.
+/// What is found in a window for a subject; nothing is searched where the window is nothing.
 pub(crate) fn find<S: Service>(
     service: &mut S,
-    anonymous: Option<Name>,
+    asker: &Name,
     window: Window,
 ) -> Result<Option<Found<S::Memory>>, Refusal>
-    ensures { Finds S.subject_of S.serves anonymous window service.old service.new
+    ensures { Finds S.subject_of S.serves asker.now window service.old service.new
         (rows_seen result) }
 {
-    match greet(service, anonymous) {
+    match greet(service, asker) {
         Err(refusal) => Err(refusal),
         Ok(()) => match window {
             Window::Nothing => Ok(None),

@@ -3,7 +3,7 @@
 ghost use Rattle.std.specs.Prelude.{◌≡◌, [], ◌∷◌, ◌++◌, IfOk, OnErr, OnOk, ◌+◌, option_map};
 ghost use Rattle.map_sessions.specs.Keeping.{IsKept, fits, fits_in, next_number, rows_asked, same_layer, trimmed};
 
-use features::Feature;
+use features::{Feature, Name};
 use map_asks::Layer;
 use memory::{GrowVec, NoMemory};
 use std::alloc::Allocator;
@@ -14,12 +14,14 @@ pub const KEPT_LIMIT: usize = 16;
 /// How many rows the kept answers have together at most, unless one alone has more.
 pub const KEPT_ROWS_LIMIT: usize = 200_000;
 
-/// The rows of a collection that a search has found.
+/// The rows of a collection that a search has found for a subject.
 #[derive(Debug, Drop)]
 pub struct KeptRows<A: Allocator> {
     /// The number by which further pages name it.
     pub(crate) number: u64,
     pub(crate) layer: Layer,
+    /// Who asked; nobody else gets further pages.
+    pub(crate) asker: Name,
     pub(crate) rows: Vec<Feature, A>,
 }
 
@@ -93,10 +95,10 @@ impl<A: Allocator> Kept<A> {
         self.given.saturating_add(1)
     }
 
-    /// Keeps the rows of a collection under the next number. The oldest answers are dropped where
-    /// there are too many, or too many rows. If out of memory, nothing changes.
-    pub fn keep(&mut self, layer: Layer, rows: Vec<Feature, A>) -> Result<(), NoMemory>
-        ensures ok { OnOk result (IsKept layer rows.items self.old self.new) }
+    /// Keeps the rows of a collection for who has asked, under the next number. The oldest answers
+    /// are dropped where there are too many, or too many rows. If out of memory, nothing changes.
+    pub fn keep(&mut self, layer: Layer, asker: Name, rows: Vec<Feature, A>) -> Result<(), NoMemory>
+        ensures ok { OnOk result (IsKept layer asker rows.items self.old self.new) }
         ensures err_answers { OnErr result (self.new.answers.items ≡ self.old.answers.items) }
         ensures err_given { OnErr result (self.new.given ≡ self.old.given) }
     {
@@ -104,6 +106,7 @@ impl<A: Allocator> Kept<A> {
         self.answers.try_push(KeptRows {
             number,
             layer,
+            asker,
             rows,
         })?;
         self.given = number;
@@ -111,13 +114,14 @@ impl<A: Allocator> Kept<A> {
         Ok(())
     }
 
-    /// The rows that are kept under a number, if they are of this collection.
-    pub fn rows(&self, number: u64, layer: &Layer) -> Option<&[Feature]>
+    /// The rows that are kept under a number, if they are of this collection and were found for this
+    /// subject.
+    pub fn rows(&self, number: u64, layer: &Layer, asker: &Name) -> Option<&[Feature]>
         ensures { option_map (λ rows. rows.now) result
-            ≡ rows_asked number layer.now self.now.answers.items }
+            ≡ rows_asked number layer.now asker.now self.now.answers.items }
     {
         for answer in &self.answers {
-            if answer.number == number && is_same(&answer.layer, layer) {
+            if answer.number == number && is_same(&answer.layer, layer) && answer.asker == *asker {
                 return Some(answer.rows.as_slice());
             }
         }

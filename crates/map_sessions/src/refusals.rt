@@ -17,6 +17,8 @@ pub enum Refusal {
     Ask(AskFault),
     /// No subject is named for those who do not say who they are.
     Nobody,
+    /// The same, where keys are there by which it may be said.
+    NoCredentials,
     /// The session gives this reply in place of what it was asked.
     Said(Reply),
     /// The session took a trail out, which nobody asked for.
@@ -139,6 +141,7 @@ fn status_of(refusal: &Refusal) -> Status
     match refusal {
         Refusal::Ask(fault) => problem_of_ask(*fault).status,
         Refusal::Nobody => Status::Forbidden,
+        Refusal::NoCredentials => Status::Unauthorized,
         Refusal::Said(reply) => status_of_reply(reply),
         Refusal::Misplaced => Status::Internal,
         Refusal::Absent => Status::NotFound,
@@ -154,6 +157,7 @@ fn code_of(refusal: &Refusal) -> &'static str
     match refusal {
         Refusal::Ask(fault) => fault.code(),
         Refusal::Nobody => "H1",
+        Refusal::NoCredentials => "H1",
         Refusal::Said(reply) => code_of_reply(reply),
         Refusal::Misplaced => "reply",
         Refusal::Absent => "absent",

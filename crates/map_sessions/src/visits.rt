@@ -2,11 +2,12 @@
 
 ghost use Rattle.std.specs.Prelude.{◌≡◌, ◌++◌, None, IfOk, OnOk};
 ghost use Rattle.map_answers.specs.Answers.{answer_data};
-ghost use Rattle.map_sessions.specs.Visiting.{Answers, GivesItem, GivesItems, GivesKept, GivesRow, GivesRows, GivesSearch, IsAnswered, MayLack, fixed_page, outcome_of, place_of, query_text, row_data, row_page, visit_address, whole_map, whole_square};
+ghost use Rattle.map_sessions.specs.Visiting.{Answers, GivesItem, GivesItems, GivesKept, GivesRow, GivesRows, GivesSearch, IsAnswered, MayLack, fixed_page, is_keyed, outcome_of, place_of, query_text, row_data, row_page, unasked, unasked_items, visit_address, whole_map, whole_square};
 
 use crate::finding::{find, found_rows};
 use crate::kept::Kept;
 use crate::refusals::{Refusal, problem_of};
+use credentials::Key;
 use features::{Feature, Name};
 use map_answers::{
     Answer, FeaturePage, ItemSite, feature_answer, feature_of, page_answer, problem_answer, put,
@@ -37,6 +38,30 @@ pub struct Host<'a> {
     pub site: &'a Site<'a>,
     /// The subject of those who do not say who they are.
     pub anonymous: Option<Name>,
+    /// By which it may be said, where no field of a proxy says it.
+    pub keys: &'a [Key],
+    /// Whether a proxy says who asks, by a field of its own.
+    pub trusted_field: bool,
+}
+
+impl Host<'_> {
+    /// Whether it may be said by a key who asks.
+    pub fn is_keyed(&self) -> bool
+        ensures { result ≡ is_keyed (place_of self.now) }
+    {
+        !self.trusted_field && !self.keys.is_empty()
+    }
+}
+
+/// Why those get nothing who do not say who they are.
+fn unasked(host: &Host) -> Refusal
+    ensures { result ≡ unasked (place_of host.now) }
+{
+    if host.is_keyed() {
+        Refusal::NoCredentials
+    } else {
+        Refusal::Nobody
+    }
 }
 
 /// Appends a query with its question mark, if there is a query.
@@ -62,9 +87,10 @@ fn visit_address<A: Allocator>(alloc: A, base: &[u8], visit: &Visit) -> Result<V
     Ok(address)
 }
 
-/// Which page of rows is asked for.
+/// Which page of rows is asked for, and by whom.
 #[derive(Clone, Copy, Debug)]
 struct RowPage {
+    asker: Name,
     layer: Layer,
     /// The number under which the rows are kept, if they are.
     kept: Option<u64>,
@@ -97,7 +123,8 @@ fn give_page<A: Allocator + Copy>(
     page_answer(alloc, host.site.grid, &asked)
 }
 
-/// A page of a kept answer. `Gone` where it is not kept any more, or is of another collection.
+/// A page of a kept answer. `Gone` where it is not kept any more, is of another collection, or was
+/// found for another subject.
 fn give_kept<A: Allocator + Copy>(
     alloc: A,
     host: &Host,
@@ -106,10 +133,11 @@ fn give_kept<A: Allocator + Copy>(
     number: u64,
     wanted: &RowPage,
 ) -> Result<Answer<A>, Refusal>
-    ensures { GivesKept (place_of host.now) visit.now.path.now visit.now.query.now wanted.now.layer
-        number wanted.now.after wanted.now.limit kept.now.answers.items (outcome_of result) }
+    ensures { GivesKept (place_of host.now) wanted.now.asker visit.now.path.now visit.now.query.now
+        wanted.now.layer number wanted.now.after wanted.now.limit kept.now.answers.items
+        (outcome_of result) }
 {
-    let Some(rows) = kept.rows(number, &wanted.layer) else {
+    let Some(rows) = kept.rows(number, &wanted.layer, &wanted.asker) else {
         return Err(Refusal::Gone);
     };
     let wanted = RowPage {
@@ -133,8 +161,8 @@ fn give_rows<A: Allocator + Copy>(
     rows: Vec<Feature, A>,
 ) -> Result<Answer<A>, Refusal>
     requires { wanted.now.after ≡ None }
-    ensures { GivesRows (place_of host.now) visit.now.path.now visit.now.query.now wanted.now.layer
-        wanted.now.limit rows.items kept.old kept.new (outcome_of result) }
+    ensures { GivesRows (place_of host.now) wanted.now.asker visit.now.path.now visit.now.query.now
+        wanted.now.layer wanted.now.limit rows.items kept.old kept.new (outcome_of result) }
 {
     if rows.len() as u64 <= wanted.limit {
         let all = RowPage {
@@ -148,7 +176,7 @@ fn give_rows<A: Allocator + Copy>(
         ..*wanted
     };
     let answer = give_page(alloc, host, visit, &first, rows.as_slice())?;
-    kept.keep(wanted.layer, rows)?;
+    kept.keep(wanted.layer, wanted.asker, rows)?;
     Ok(answer)
 }
 
@@ -163,11 +191,11 @@ fn give_search<S: Service, A: Allocator + Copy>(
     wanted: &RowPage,
 ) -> Result<Answer<A>, Refusal>
     requires { wanted.now.after ≡ None }
-    ensures { GivesSearch S.subject_of S.serves (place_of host.now) visit.now.path.now
-        visit.now.query.now wanted.now.layer window wanted.now.limit service.old service.new kept.old
-        kept.new (outcome_of result) }
+    ensures { GivesSearch S.subject_of S.serves (place_of host.now) wanted.now.asker
+        visit.now.path.now visit.now.query.now wanted.now.layer window wanted.now.limit service.old
+        service.new kept.old kept.new (outcome_of result) }
 {
-    match find(service, host.anonymous, window) {
+    match find(service, &wanted.asker, window) {
         Err(refusal) => Err(refusal),
         Ok(found) => {
             let rows = rows_of(alloc, &wanted.layer, found_rows(&found))?;
@@ -176,17 +204,18 @@ fn give_search<S: Service, A: Allocator + Copy>(
     }
 }
 
-/// A page of a collection.
+/// A page of a collection, for somebody.
 fn give_items<S: Service, A: Allocator + Copy>(
     alloc: A,
     host: &Host,
+    asker: Name,
     service: &mut S,
     kept: &mut Kept<A>,
     visit: &Visit,
     layer: Layer,
     items: Items,
 ) -> Result<Answer<A>, Refusal>
-    ensures { GivesItems S.subject_of S.serves (place_of host.now) visit.now.path.now
+    ensures { GivesItems S.subject_of S.serves (place_of host.now) asker visit.now.path.now
         visit.now.query.now layer items.source items.limit service.old service.new kept.old kept.new
         (outcome_of result) }
 {
@@ -194,6 +223,7 @@ fn give_items<S: Service, A: Allocator + Copy>(
     match source {
         Source::Search(window) => {
             let wanted = RowPage {
+                asker,
                 layer,
                 kept: None,
                 after: None,
@@ -203,6 +233,7 @@ fn give_items<S: Service, A: Allocator + Copy>(
         }
         Source::Kept { number, after } => {
             let wanted = RowPage {
+                asker,
                 layer,
                 kept: None,
                 after,
@@ -295,16 +326,17 @@ fn give_row<A: Allocator + Copy>(
 fn give_item<S: Service, A: Allocator + Copy>(
     alloc: A,
     host: &Host,
+    asker: &Name,
     service: &mut S,
     visit: &Visit,
     layer: Layer,
     id: u64,
 ) -> Result<Answer<A>, Refusal>
-    ensures { GivesItem S.subject_of S.serves (place_of host.now) visit.now.path.now
+    ensures { GivesItem S.subject_of S.serves (place_of host.now) asker.now visit.now.path.now
         visit.now.query.now visit.now.known.now layer id service.old service.new
         (outcome_of result) }
 {
-    match find(service, host.anonymous, whole_map()) {
+    match find(service, asker, whole_map()) {
         Err(refusal) => Err(refusal),
         Ok(found) => give_row(alloc, host, visit, layer, id, found_rows(&found)),
     }
@@ -324,46 +356,64 @@ fn give_fixed<A: Allocator + Copy>(
     }
 }
 
+/// Why those get no page of a collection who do not say who they are: they can have kept nothing.
+fn refuse_items(host: &Host, source: &Source) -> Refusal
+    ensures { result ≡ unasked_items (place_of host.now) source.now }
+{
+    match source {
+        Source::Search(_) => unasked(host),
+        Source::Kept { .. } => Refusal::Gone,
+    }
+}
+
 /// What a request is answered, or why it is not.
 fn respond<S: Service, A: Allocator + Copy>(
     alloc: A,
     host: &Host,
+    asker: Option<Name>,
     service: &mut S,
     kept: &mut Kept<A>,
     visit: &Visit,
 ) -> Result<Answer<A>, Refusal>
-    ensures { Answers S.subject_of S.serves (place_of host.now) visit.now.path.now
+    ensures { Answers S.subject_of S.serves (place_of host.now) asker visit.now.path.now
         visit.now.query.now visit.now.known.now service.old service.new kept.old kept.new
         (outcome_of result) }
 {
     match read_ask(host.site.grid, host.site.classes, visit.path, visit.query) {
         Err(fault) => Err(Refusal::Ask(fault)),
         Ok(Ask::Fixed(page)) => give_fixed(alloc, host, &page),
-        Ok(Ask::Items(layer, items)) => {
-            give_items(alloc, host, service, kept, visit, layer, items)
-        }
-        Ok(Ask::Item(layer, id)) => give_item(alloc, host, service, visit, layer, id),
+        Ok(Ask::Items(layer, items)) => match asker {
+            Some(asker) => give_items(alloc, host, asker, service, kept, visit, layer, items),
+            None => Err(refuse_items(host, &items.source)),
+        },
+        Ok(Ask::Item(layer, id)) => match asker {
+            Some(asker) => give_item(alloc, host, &asker, service, visit, layer, id),
+            None => Err(unasked(host)),
+        },
     }
 }
 
-/// Answers a request to read. The session is begun for those who do not say who they are, if it has
-/// not begun; pages that are the same whatever the map has ask nothing of it. A page of features is
-/// one search, of which further pages are kept; a single feature is a search of the whole map.
+/// Answers a request to read, for a subject, or for nobody where no subject is named for those who
+/// do not say who they are. The session is begun for the subject, if it does not ask for them
+/// already; pages that are the same whatever the map has ask nothing of it. A page of features is
+/// one search, of which further pages are kept for the same subject; a single feature is a search of
+/// the whole map.
 ///
 /// What is refused is told as a problem. Out of memory only where there is no memory for the answer
 /// that tells of a refusal.
 pub fn answer_visit<S: Service, A: Allocator + Copy>(
     alloc: A,
     host: &Host,
+    asker: Option<Name>,
     service: &mut S,
     kept: &mut Kept<A>,
     visit: &Visit,
 ) -> Result<Answer<A>, NoMemory>
-    ensures { IfOk result (λ answer. IsAnswered S.subject_of S.serves (place_of host.now)
+    ensures { IfOk result (λ answer. IsAnswered S.subject_of S.serves (place_of host.now) asker
         visit.now.path.now visit.now.query.now visit.now.known.now service.old service.new kept.old
         kept.new (answer_data answer)) }
 {
-    match respond(alloc, host, service, kept, visit) {
+    match respond(alloc, host, asker, service, kept, visit) {
         Ok(answer) => Ok(answer),
         Err(refusal) => problem_answer(alloc, &problem_of(&refusal)),
     }
