@@ -6,6 +6,7 @@ ghost use Rattle.std.specs.Io.{ReadsAtMost, WritesAtMost};
 use crate::lasting::{HallRecords, Lasting, barrier};
 use crate::turns::Turn;
 use byte_streams::let_go;
+use credentials::Key;
 use crossbeam_channel::{Receiver, RecvTimeoutError, Sender, TryRecvError, bounded};
 use features::Name;
 use hall::{Hall, HallName, NoPause, Seat, View};
@@ -57,7 +58,7 @@ impl Visitor {
         rt: &R,
         heap: Global,
         stream: WebStream,
-        keys: RandomState,
+        random: RandomState,
     ) -> io::Result<Self> {
         stream.set_write_timeout(Duration::from_millis(LONG_LOOK))?;
         let config = Config {
@@ -66,7 +67,7 @@ impl Visitor {
         };
         Ok(Visitor {
             stream,
-            connection: http_server::Connection::new(heap, keys, config),
+            connection: http_server::Connection::new(heap, random, config),
             begun: Instant::now(rt)?,
             answered: AtomicU64::new(0),
         })
@@ -101,14 +102,18 @@ pub struct Reception<'a> {
     pub site: &'a Site<'a>,
     /// Who asks where nobody says it.
     pub anonymous: Option<Name>,
+    /// By which requests say who asks.
+    pub keys: &'a [Key],
+    /// Whether a proxy says who asks, by a field of its own.
+    pub trusted_field: bool,
     /// The answers of which pages are still to come.
     pub kept: &'a Mutex<Kept<Global>>,
     /// Connections that wait.
     pub lounge: &'a Lounge,
     /// New connections. Their sender is dropped when nobody new comes.
     pub arrivals: &'a Receiver<WebStream>,
-    /// Secret keys for maps of header fields, whose names clients choose.
-    pub keys: RandomState,
+    /// Drawn anew for each server, for maps of header fields, whose names clients choose.
+    pub random: RandomState,
     /// Within how many milliseconds a client sends its next request whole, and takes some bytes of
     /// an answer.
     pub patience: u64,
@@ -297,6 +302,8 @@ impl Visitor {
             host: Host {
                 site: reception.site,
                 anonymous: reception.anonymous,
+                keys: reception.keys,
+                trusted_field: reception.trusted_field,
             },
             session: Attended::new(rt, hall, seats, view, &mut pause, true),
             kept: reception.kept,
@@ -330,9 +337,9 @@ fn welcome<R: Wait + Clock + Log>(
     rt: &R,
     heap: Global,
     stream: WebStream,
-    keys: RandomState,
+    random: RandomState,
 ) -> Option<Visitor> {
-    match Visitor::new(rt, heap, stream, keys) {
+    match Visitor::new(rt, heap, stream, random) {
         Ok(visitor) => Some(visitor),
         Err(error) => {
             warn!(rt; target: "landmap", "a connection was not accepted: {error}");
@@ -366,7 +373,7 @@ fn next_visitor<R: Wait + Clock + Log>(
             }
         };
         if let Some(stream) = arrived {
-            if let Some(visitor) = welcome(rt, heap, stream, reception.keys) {
+            if let Some(visitor) = welcome(rt, heap, stream, reception.random) {
                 return Some(visitor);
             }
         }

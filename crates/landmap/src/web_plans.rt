@@ -25,8 +25,10 @@ pub(crate) enum WebFault {
     NoGrid,
     /// The configuration does not say what links begin with, and HTTP has no address.
     NoPublic,
+    /// A proxy is to say who asks, and there is none before an address.
+    NoProxy,
     /// The host gives no random numbers.
-    NoKeys,
+    NoRandom,
     /// Out of memory.
     Memory(NoMemory),
 }
@@ -38,7 +40,9 @@ impl WebFault {
             WebFault::NoGrid => "HTTP needs a grid in the configuration",
             WebFault::NoPublic =>
                 "HTTP on a Unix socket needs \"public\" in the configuration: what links begin with",
-            WebFault::NoKeys => "HTTP needs random numbers, and the host gives none",
+            WebFault::NoProxy =>
+                "\"trusted-field\" is for a proxy before a Unix socket: --http-socket, not --http",
+            WebFault::NoRandom => "HTTP needs random numbers, and the host gives none",
             WebFault::Memory(_) => "out of memory",
         }
     }
@@ -74,7 +78,7 @@ pub(crate) struct WebPlan {
     grid: Grid,
     /// What the configuration says.
     said: configuration::Web<Global>,
-    keys: RandomState,
+    random: RandomState,
     workers: usize,
 }
 
@@ -114,8 +118,13 @@ impl WebPlan {
         let Some(grid) = grid else {
             return Err(WebFault::NoGrid);
         };
-        let Ok(keys) = RandomState::new(rt) else {
-            return Err(WebFault::NoKeys);
+        if let HttpWord::Address(_) = word {
+            if said.trusted_field {
+                return Err(WebFault::NoProxy);
+            }
+        }
+        let Ok(random) = RandomState::new(rt) else {
+            return Err(WebFault::NoRandom);
         };
         Ok(WebPlan {
             base: base(heap, &said, word)?,
@@ -129,7 +138,7 @@ impl WebPlan {
             },
             grid,
             said,
-            keys,
+            random,
             workers: usize::from(workers.unwrap_or(DEFAULT_HTTP_WORKERS)),
         })
     }
@@ -163,7 +172,9 @@ impl WebPlan {
             place: self.place(),
             site,
             anonymous: self.said.anonymous,
-            keys: self.keys,
+            keys: self.said.keys.as_slice(),
+            trusted_field: self.said.trusted_field,
+            random: self.random,
             workers: self.workers,
             patience: PATIENCE,
         }

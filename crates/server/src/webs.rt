@@ -2,6 +2,7 @@
 
 use crate::faults::{NoMemoryForChannel, ServerFault};
 use crate::streams::WORKER_LIMIT;
+use credentials::Key;
 use crossbeam_channel::{Receiver, Sender};
 use features::Name;
 use hall_workers::{Lounge, Reception};
@@ -34,8 +35,13 @@ pub struct Web<'a> {
     pub site: &'a Site<'a>,
     /// Who asks where nobody says it.
     pub anonymous: Option<Name>,
-    /// Secret keys, drawn anew for each server.
-    pub keys: RandomState,
+    /// By which requests say who asks.
+    pub keys: &'a [Key],
+    /// Whether a proxy says who asks, by the field `landmap-subject`: only where no client reaches
+    /// the place.
+    pub trusted_field: bool,
+    /// Drawn anew for each server.
+    pub random: RandomState,
     /// How many connections are answered side by side, from 1 to `WEB_WORKER_LIMIT`; any other
     /// number is taken as the nearest of these.
     pub workers: usize,
@@ -71,8 +77,10 @@ impl<'a> WebRoom<'a> {
         Some(Reception {
             site: web.site,
             anonymous: web.anonymous,
-            kept: &self.kept,
             keys: web.keys,
+            trusted_field: web.trusted_field,
+            kept: &self.kept,
+            random: web.random,
             patience: web.patience,
             lounge: &self.lounge,
             arrivals,

@@ -41,12 +41,14 @@ fn with_web<'a>(stop: &'a Stop, web: &'a Web<'a>) -> SocketOptions<'a> {
 }
 
 /// HTTP at a path, for `south`, by so many workers.
-fn web<'a>(place: WebPlace<'a>, site: &'a Site<'a>, keys: RandomState, workers: usize) -> Web<'a> {
+fn web<'a>(place: WebPlace<'a>, site: &'a Site<'a>, random: RandomState, workers: usize) -> Web<'a> {
     Web {
         place,
         site,
         anonymous: Name::new(b"south"),
-        keys,
+        keys: &[],
+        trusted_field: false,
+        random,
         workers,
         patience: 30_000,
     }
