@@ -19,7 +19,7 @@ const PLAIN: ServerOptions<'static> = ServerOptions {
 };
 
 /// Lines that clap rejects, each with the beginning of its message.
-const TURNED_DOWN: [(&str, &str); 30] = [
+const TURNED_DOWN: [(&str, &str); 29] = [
     (
         "serve",
         "error: the following required arguments were not provided:\n  --socket <PATH>\n",
