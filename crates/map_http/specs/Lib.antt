@@ -1,3 +1,4 @@
+pub mod Askers
 pub mod Responses
 pub mod Hosts
 pub mod Requests

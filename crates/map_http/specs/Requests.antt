@@ -1,5 +1,5 @@
 -- Requests of HTTP, and what they are answered.
-use Rattle.std.specs.Prelude.{◌≡◌, ℕ, ◌||◌, Bool, List, [], codes, Option, None, Some, unwrap_or, Result, IfOk}
+use Rattle.std.specs.Prelude.{◌≡◌, ℕ, ◌||◌, Bool, List, [], codes, Option, None, Some, unwrap_or, Result, IfOk, MatchResult}
 use Rattle.std.specs.Bool.{MatchBool}
 use Rattle.std.specs.Str.{bytes_eq}
 use Rattle.http.specs.declared.request.Parts.{Parts}
@@ -17,6 +17,7 @@ use Rattle.session_lines.specs.Replies.{SaidData}
 use Rattle.session_lines.specs.Services.{Call}
 use Rattle.map_sessions.specs.Visiting.{IsAnswered, Place}
 use Rattle.map_sessions.specs.declared.kept.Kept.{Kept}
+use Rattle.map_http.specs.Askers.{asker_in, asker_problem, way_of}
 use Rattle.map_http.specs.Hosts.{is_for}
 use Rattle.map_http.specs.Responses.{Told}
 
@@ -50,15 +51,29 @@ abbrev pub Refuses : {S A : Type 0} → AnswerData → Result AnswerData NoMemor
 Refuses problem outcome service served old new =
     (served ≡ service) × (new ≡ old) × IfOk outcome (λ answer. answer ≡ problem)
 
--- what a request is answered: that it is for another host, or that its method does more than read;
--- else the answer to its path and its query
+-- who asks is answered: a subject, or nobody
+abbrev pub AnswersAsker : {S A : Type 0} → (S → Option Subject) → (Call → S → S → SaidData → Type 0)
+    → Place → Parts → Option (List ℕ) → Result AnswerData NoMemory → S → S → Kept A → Kept A → Type 0
+AnswersAsker subject_of serves place head asker outcome service served old new =
+    IfOk outcome (λ answer. IsAnswered subject_of serves place asker (uri_path head.uri)
+    (query_in head.uri) (known_in head.headers) service served old new answer)
+
+-- what a request is answered: that it is for another host, that its method does more than read, or
+-- that it cannot be told who asks; else the answer to its path and its query, for who asks
+abbrev pub Responds : {S A : Type 0} → (S → Option Subject) → (Call → S → S → SaidData → Type 0)
+    → Place → Parts → Result AnswerData NoMemory → S → S → Kept A → Kept A → Type 0
+Responds subject_of serves place head outcome service served old new =
+    MatchBool (is_for place.base head)
+    (MatchBool (is_read head.method)
+    (MatchResult (asker_in place head.headers)
+    (λ asker. AnswersAsker subject_of serves place head asker outcome service served old new)
+    (λ fault. Refuses (asker_problem fault) outcome service served old new))
+    (Refuses method_problem outcome service served old new))
+    (Refuses host_problem outcome service served old new)
+
+-- the response tells of that answer
 abbrev pub AnswersRequest : {S A : Type 0} → (S → Option Subject) → (Call → S → S → SaidData
     → Type 0) → Place → Parts → S → S → Kept A → Kept A → Response → Type 0
 AnswersRequest subject_of serves place head service served old new response =
-    (outcome : Result AnswerData NoMemory) × Told outcome response
-    × MatchBool (is_for place.base head)
-    (MatchBool (is_read head.method)
-    (IfOk outcome (λ answer. IsAnswered subject_of serves place (uri_path head.uri)
-    (query_in head.uri) (known_in head.headers) service served old new answer))
-    (Refuses method_problem outcome service served old new))
-    (Refuses host_problem outcome service served old new)
+    (outcome : Result AnswerData NoMemory) × Told (way_of place) outcome response
+    × Responds subject_of serves place head outcome service served old new

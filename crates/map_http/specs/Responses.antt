@@ -10,7 +10,9 @@ use Rattle.map_answers.specs.Statuses.{number_of}
 use Rattle.map_answers.specs.declared.answers.Answer.{Answer}
 use Rattle.map_answers.specs.declared.answers.MediaType.{MediaType}
 use Rattle.map_answers.specs.declared.statuses.Status.{Status}
-use Rattle.map_answers.specs.declared.statuses.Status.TheVariants.{MethodNotAllowed}
+use Rattle.map_answers.specs.declared.statuses.Status.TheVariants.{MethodNotAllowed, Unauthorized}
+use Rattle.map_http.specs.declared.askers.Way.{Way}
+use Rattle.map_http.specs.declared.askers.Way.TheVariants.{Nothing, Secret, Proxy}
 
 -- the type of the body, where there is a body
 abbrev pub media_fields : MediaType → ℕ → List Header
@@ -35,16 +37,56 @@ abbrev pub allow_fields : Status → List Header
 allow_fields MethodNotAllowed = (codes "allow", methods_text) ∷ []
 allow_fields _ = []
 
--- the fields of an answer
-abbrev pub answer_fields : AnswerData → List Header
-answer_fields answer =
+unfoldable pub challenge_text : List ℕ
+challenge_text = codes "Basic realm=\"landmap\", charset=\"UTF-8\""
+
+-- how to say who asks, where it was not shown (15.5.2; RFC 7617, 2.1)
+abbrev pub challenge_fields : Status → List Header
+challenge_fields Unauthorized = (codes "www-authenticate", challenge_text) ∷ []
+challenge_fields _ = []
+
+unfoldable pub private_text : List ℕ
+private_text = codes "private, no-cache"
+
+-- the field by which a secret is said, and that by which a proxy says who asks
+unfoldable pub secret_field : List ℕ
+secret_field = codes "authorization"
+
+unfoldable pub proxy_field : List ℕ
+proxy_field = codes "landmap-subject"
+
+-- an answer depends on this field (12.5.5), and is for who asks alone, who asks again before it is
+-- used again (RFC 9111, 5.2.2.7 and 5.2.2.4)
+abbrev pub own_fields_by : List ℕ → List Header
+own_fields_by field = (codes "vary", field) ∷ (codes "cache-control", private_text) ∷ []
+
+abbrev pub own_fields : Way → List Header
+own_fields Nothing = []
+own_fields Secret = own_fields_by secret_field
+own_fields Proxy = own_fields_by proxy_field
+
+-- a body is of the type that it is said to be, and of no other
+abbrev pub sniff_fields : List Header
+sniff_fields = (codes "x-content-type-options", codes "nosniff") ∷ []
+
+-- what an answer says of itself
+abbrev pub content_fields : AnswerData → List Header
+content_fields answer =
     media_fields answer.media (length answer.body) ++ tag_fields answer.version
     ++ retry_fields answer.retry_after ++ allow_fields answer.status
 
+-- what it says of who asks, where it is said in one way who asks
+abbrev pub asker_fields : Way → Status → List Header
+asker_fields way status = challenge_fields status ++ own_fields way ++ sniff_fields
+
+-- the fields of an answer
+abbrev pub answer_fields : Way → AnswerData → List Header
+answer_fields way answer = content_fields answer ++ asker_fields way answer.status
+
 -- the response has the status, the fields and the body of the answer
-abbrev pub Tells : AnswerData → Response → Type 0
-Tells answer response =
-    IsResponse (number_of answer.status) (answer_fields answer) answer.body response
+abbrev pub Tells : Way → AnswerData → Response → Type 0
+Tells way answer response =
+    IsResponse (number_of answer.status) (answer_fields way answer) answer.body response
 
 -- the response says no more than that there was no room for it
 abbrev pub HasNoRoom : Response → Type 0
@@ -55,6 +97,6 @@ outcome_of (Ok answer) = Ok (answer_data answer)
 outcome_of (Err refused) = Err refused
 
 -- the response tells of the answer, if there was one, or that there was no room
-abbrev pub Told : Result AnswerData NoMemory → Response → Type 0
-Told (Ok answer) response = Tells answer response ⊎ HasNoRoom response
-Told (Err refused) response = HasNoRoom response
+abbrev pub Told : Way → Result AnswerData NoMemory → Response → Type 0
+Told way (Ok answer) response = Tells way answer response ⊎ HasNoRoom response
+Told way (Err refused) response = HasNoRoom response

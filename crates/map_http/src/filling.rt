@@ -3,8 +3,9 @@
 ghost use Rattle.std.specs.Prelude.{◌≡◌, ◌++◌, OnOk};
 ghost use Rattle.http_server.specs.Response.{IsBlank, fields_of};
 ghost use Rattle.map_answers.specs.Answers.{answer_data, media_text};
-ghost use Rattle.map_http.specs.Responses.{HasNoRoom, Tells, Told, allow_fields, answer_fields, media_fields, methods_text, outcome_of, retry_fields, tag_fields};
+ghost use Rattle.map_http.specs.Responses.{HasNoRoom, Tells, Told, allow_fields, answer_fields, asker_fields, challenge_fields, challenge_text, content_fields, media_fields, methods_text, outcome_of, own_fields, own_fields_by, private_text, proxy_field, retry_fields, secret_field, sniff_fields, tag_fields};
 
+use crate::askers::Way;
 use bytes::Bytes;
 use http::{HeaderValue, StatusCode, header};
 use http_server::Response;
@@ -104,14 +105,108 @@ fn add_allow(response: &mut Response, status: Status) -> Result<(), Unfilled>
     }
 }
 
-/// Adds all fields of an answer.
-fn add_fields(
+/// How to say who asks.
+#[tactic(auto, unfolding(crate::specs::Responses::challenge_text))]
+fn challenge_value() -> HeaderValue
+    ensures { result.bytes ≡ challenge_text }
+{
+    HeaderValue::from_static("Basic realm=\"landmap\", charset=\"UTF-8\"")
+}
+
+/// Adds how to say who asks, where it was not shown.
+fn add_challenge(response: &mut Response, status: Status) -> Result<(), Unfilled>
+    ensures fields { OnOk result
+        (fields_of response.new ≡ fields_of response.old ++ challenge_fields status) }
+    ensures status { response.new.status ≡ response.old.status }
+    ensures body { response.new.body ≡ response.old.body }
+{
+    match status {
+        Status::Unauthorized => {
+            match response.add_header(header::WWW_AUTHENTICATE, challenge_value()) {
+                Ok(()) => Ok(()),
+                Err(_) => Err(Unfilled),
+            }
+        }
+        _ => Ok(()),
+    }
+}
+
+/// That an answer is for who asks alone, who asks again before it is used again.
+#[tactic(auto, unfolding(crate::specs::Responses::private_text))]
+fn private_value() -> HeaderValue
+    ensures { result.bytes ≡ private_text }
+{
+    HeaderValue::from_static("private, no-cache")
+}
+
+/// The field by which a secret is said.
+#[tactic(auto, unfolding(crate::specs::Responses::secret_field))]
+fn secret_field() -> HeaderValue
+    ensures { result.bytes ≡ secret_field }
+{
+    HeaderValue::from_static("authorization")
+}
+
+/// The field by which a proxy says who asks.
+#[tactic(auto, unfolding(crate::specs::Responses::proxy_field))]
+fn proxy_field() -> HeaderValue
+    ensures { result.bytes ≡ proxy_field }
+{
+    HeaderValue::from_static("landmap-subject")
+}
+
+/// Adds on which field an answer depends, and that it is for who asks alone.
+fn add_own_by(response: &mut Response, field: HeaderValue) -> Result<(), Unfilled>
+    ensures fields { OnOk result
+        (fields_of response.new ≡ fields_of response.old ++ own_fields_by field.bytes) }
+    ensures status { response.new.status ≡ response.old.status }
+    ensures body { response.new.body ≡ response.old.body }
+{
+    if response.add_header(header::VARY, field).is_err() {
+        return Err(Unfilled);
+    }
+    match response.add_header(header::CACHE_CONTROL, private_value()) {
+        Ok(()) => Ok(()),
+        Err(_) => Err(Unfilled),
+    }
+}
+
+/// The same, where it is said in some way who asks.
+fn add_own(response: &mut Response, way: Way) -> Result<(), Unfilled>
+    ensures fields { OnOk result
+        (fields_of response.new ≡ fields_of response.old ++ own_fields way) }
+    ensures status { response.new.status ≡ response.old.status }
+    ensures body { response.new.body ≡ response.old.body }
+{
+    match way {
+        Way::Nothing => Ok(()),
+        Way::Secret => add_own_by(response, secret_field()),
+        Way::Proxy => add_own_by(response, proxy_field()),
+    }
+}
+
+/// Adds that a body is of the type that it is said to be.
+fn add_sniff(response: &mut Response) -> Result<(), Unfilled>
+    ensures fields { OnOk result
+        (fields_of response.new ≡ fields_of response.old ++ sniff_fields) }
+    ensures status { response.new.status ≡ response.old.status }
+    ensures body { response.new.body ≡ response.old.body }
+{
+    let value = HeaderValue::from_static("nosniff");
+    match response.add_header(header::X_CONTENT_TYPE_OPTIONS, value) {
+        Ok(()) => Ok(()),
+        Err(_) => Err(Unfilled),
+    }
+}
+
+/// Adds what an answer says of itself.
+fn add_content_fields(
     response: &mut Response,
     heap: Global,
     answer: &Answer<Global>,
 ) -> Result<(), Unfilled>
-    ensures fields { OnOk result
-        (fields_of response.new ≡ fields_of response.old ++ answer_fields (answer_data answer.now)) }
+    ensures fields { OnOk result (fields_of response.new
+        ≡ fields_of response.old ++ content_fields (answer_data answer.now)) }
     ensures status { response.new.status ≡ response.old.status }
     ensures body { response.new.body ≡ response.old.body }
 {
@@ -119,6 +214,34 @@ fn add_fields(
     add_tag(response, heap, answer.version)?;
     add_retry(response, heap, answer.retry_after)?;
     add_allow(response, answer.status)
+}
+
+/// Adds what an answer says of who asks, where it is said in one way who asks.
+fn add_asker_fields(response: &mut Response, way: Way, status: Status) -> Result<(), Unfilled>
+    ensures fields { OnOk result
+        (fields_of response.new ≡ fields_of response.old ++ asker_fields way status) }
+    ensures status { response.new.status ≡ response.old.status }
+    ensures body { response.new.body ≡ response.old.body }
+{
+    add_challenge(response, status)?;
+    add_own(response, way)?;
+    add_sniff(response)
+}
+
+/// Adds all fields of an answer.
+fn add_fields(
+    response: &mut Response,
+    heap: Global,
+    way: Way,
+    answer: &Answer<Global>,
+) -> Result<(), Unfilled>
+    ensures fields { OnOk result (fields_of response.new
+        ≡ fields_of response.old ++ answer_fields way (answer_data answer.now)) }
+    ensures status { response.new.status ≡ response.old.status }
+    ensures body { response.new.body ≡ response.old.body }
+{
+    add_content_fields(response, heap, answer)?;
+    add_asker_fields(response, way, answer.status)
 }
 
 /// Appends a body.
@@ -138,15 +261,20 @@ fn add_body(response: &mut Response, body: Vec<u8>) -> Result<(), Unfilled>
 }
 
 /// Makes a blank response one that tells of an answer.
-fn fill(response: &mut Response, heap: Global, answer: Answer<Global>) -> Result<(), Unfilled>
+fn fill(
+    response: &mut Response,
+    heap: Global,
+    way: Way,
+    answer: Answer<Global>,
+) -> Result<(), Unfilled>
     requires { IsBlank response.old }
-    ensures { OnOk result (Tells (answer_data answer) response.new) }
+    ensures { OnOk result (Tells way (answer_data answer) response.new) }
 {
     let Ok(status) = StatusCode::from_u16(answer.status.number()) else {
         return Err(Unfilled);
     };
     response.status = status;
-    add_fields(response, heap, &answer)?;
+    add_fields(response, heap, way, &answer)?;
     add_body(response, answer.body)
 }
 
@@ -160,12 +288,17 @@ fn give_up(response: &mut Response)
 
 /// Makes a blank response one that tells of an answer; or, where there is no memory for it, one that
 /// says no more than that.
-pub(crate) fn tell(response: &mut Response, heap: Global, told: Result<Answer<Global>, NoMemory>)
+pub(crate) fn tell(
+    response: &mut Response,
+    heap: Global,
+    way: Way,
+    told: Result<Answer<Global>, NoMemory>,
+)
     requires { IsBlank response.old }
-    ensures { Told (outcome_of told) response.new }
+    ensures { Told way (outcome_of told) response.new }
 {
     let filled = match told {
-        Ok(answer) => fill(response, heap, answer),
+        Ok(answer) => fill(response, heap, way, answer),
         Err(_) => Err(Unfilled),
     };
     if filled.is_err() {

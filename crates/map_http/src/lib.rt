@@ -1,6 +1,7 @@
 //! Requests of HTTP for a map's pages, answered by a session.
 #![tactic(auto)]
 
+mod askers;
 mod filling;
 mod hosts;
 mod requests;

@@ -1,12 +1,16 @@
 //! Requests of HTTP.
 
-ghost use Rattle.std.specs.Prelude.{◌≡◌, IfOk};
+ghost use Rattle.std.specs.Prelude.{◌≡◌, IfOk, None};
 ghost use Rattle.map_answers.specs.Answers.{answer_data};
 ghost use Rattle.http.specs.Request.{head_of};
 ghost use Rattle.http_server.specs.Response.{IsBlank};
-ghost use Rattle.map_http.specs.Requests.{AnswersRequest, host_problem, is_read, known_in, method_problem, query_in};
+ghost use Rattle.map_answers.specs.Problems.{problem_data};
+ghost use Rattle.map_http.specs.Askers.{asker_problem};
+ghost use Rattle.map_http.specs.Requests.{AnswersRequest, Responds, is_read, known_in, query_in};
+ghost use Rattle.map_http.specs.Responses.{outcome_of};
 ghost use Rattle.map_sessions.specs.Visiting.{place_of};
 
+use crate::askers::{AskerFault, asker_in, way_of};
 use crate::filling::tell;
 use crate::hosts::is_for;
 use bytes::Bytes;
@@ -47,37 +51,63 @@ fn known_in(fields: &HeaderMap<HeaderValue>) -> &[u8]
     }
 }
 
-/// The answer to a method that does more than read.
-fn refuse_method(heap: Global) -> Result<Answer<Global>, NoMemory>
-    ensures { IfOk result (λ answer. answer_data answer ≡ method_problem) }
+/// The answer to a request that is refused.
+fn refuse(heap: Global, status: Status, code: &'static str) -> Result<Answer<Global>, NoMemory>
+    ensures { IfOk result (λ answer. answer_data answer ≡ problem_data status code.now None) }
 {
     problem_answer(
         heap,
         &Problem {
-            status: Status::MethodNotAllowed,
-            code: "method",
+            status,
+            code,
             retry_after: None,
         },
     )
 }
 
-/// The answer to a request that is for another host.
-fn refuse_host(heap: Global) -> Result<Answer<Global>, NoMemory>
-    ensures { IfOk result (λ answer. answer_data answer ≡ host_problem) }
+/// The answer to a request of which it cannot be told who asks.
+fn refuse_asker(heap: Global, fault: AskerFault) -> Result<Answer<Global>, NoMemory>
+    ensures { IfOk result (λ answer. answer_data answer ≡ asker_problem fault) }
 {
-    problem_answer(
-        heap,
-        &Problem {
-            status: Status::MisdirectedRequest,
-            code: "host",
-            retry_after: None,
-        },
-    )
+    match fault {
+        AskerFault::Field => refuse(heap, Status::BadRequest, "field"),
+        AskerFault::Unknown => refuse(heap, Status::Unauthorized, "H1"),
+    }
+}
+
+/// What a request is answered.
+fn respond<S: Service>(
+    heap: Global,
+    host: &Host,
+    service: &mut S,
+    kept: &mut Kept<Global>,
+    request: &Request<Bytes>,
+) -> Result<Answer<Global>, NoMemory>
+    ensures { Responds S.subject_of S.serves (place_of host.now) (head_of request.now)
+        (outcome_of result) service.old service.new kept.old kept.new }
+{
+    if !is_for(host.site.base, request) {
+        return refuse(heap, Status::MisdirectedRequest, "host");
+    }
+    if !is_read(request.method()) {
+        return refuse(heap, Status::MethodNotAllowed, "method");
+    }
+    let asker = match asker_in(host, request.headers()) {
+        Ok(asker) => asker,
+        Err(fault) => return refuse_asker(heap, fault),
+    };
+    let visit = Visit {
+        path: request.uri().path().as_bytes(),
+        query: query_in(request.uri()),
+        known: known_in(request.headers()),
+    };
+    answer_visit(heap, host, asker, service, kept, &visit)
 }
 
 /// Answers a request of HTTP: one that is for another host than that of `host.site.base`, or the
-/// machine itself, by 421; of the others `GET` and `HEAD` as `answer_visit` does, any other method by 405.
-/// `response` is to be blank. Where there is no memory for the answer, it says 503 and no more.
+/// machine itself, by 421; of the others `GET` and `HEAD` as `answer_visit` does for who asks, any
+/// other method by 405. Where it cannot be told who asks, by 401 or 400. `response` is to be blank.
+/// Where there is no memory for the answer, it says 503 and no more.
 pub fn answer_request<S: Service>(
     heap: Global,
     host: &Host,
@@ -90,22 +120,6 @@ pub fn answer_request<S: Service>(
     ensures { AnswersRequest S.subject_of S.serves (place_of host.now) (head_of request.now)
         service.old service.new kept.old kept.new response.new }
 {
-    if !is_for(host.site.base, request) {
-        tell(response, heap, refuse_host(heap));
-        return;
-    }
-    if !is_read(request.method()) {
-        tell(response, heap, refuse_method(heap));
-        return;
-    }
-    let visit = Visit {
-        path: request.uri().path().as_bytes(),
-        query: query_in(request.uri()),
-        known: known_in(request.headers()),
-    };
-    tell(
-        response,
-        heap,
-        answer_visit(heap, host, service, kept, &visit),
-    );
+    let told = respond(heap, host, service, kept, request);
+    tell(response, heap, way_of(host), told);
 }
