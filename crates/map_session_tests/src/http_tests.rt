@@ -1,6 +1,7 @@
 //! Requests of HTTP, from their bytes to those of their responses, answered by a session over a
 //! world.
 use crate::visits_tests::{degrees, filled};
+use credentials::Key;
 use features::Name;
 use http_counters::Counter;
 use http_server::{Config, Connection, serve};
@@ -23,7 +24,7 @@ const RECEIVED: [&str; 9] = [
     "{\"type\":\"FeatureCollection\",\"numberMatched\":3,\"numberReturned\":2,",
     "HTTP/1.1 304 Not Modified\r\netag: \"1\"\r\n",
     "HTTP/1.1 200 OK\r\ncontent-type: application/json\r\n",
-    "HTTP/1.1 200 OK\r\ncontent-type: text/html; charset=utf-8\r\ncontent-length: 15\r\n\r\n<!DOCTYPE html>",
+    "HTTP/1.1 200 OK\r\ncontent-type: text/html; charset=utf-8\r\nx-content-type-options: nosniff\r\ncontent-length: 15\r\n\r\n<!DOCTYPE html>",
     "HTTP/1.1 405 Method Not Allowed\r\ncontent-type: application/problem+json\r\nallow: GET, HEAD\r\n",
     "{\"type\":\"about:blank\",\"title\":\"Method Not Allowed\",\"status\":405,\"code\":\"method\"}",
     "HTTP/1.1 404 Not Found\r\n",
@@ -59,13 +60,22 @@ const RECEIVED_FROM_HOSTS: [&str; 16] = [
     MISDIRECTED,
 ];
 
-/// Looks whether what a server of this address sends has these parts, in this order.
-fn look<R: Abort + Wait>(
+/// How it is said at a server who asks.
+pub(crate) struct Door<'a> {
+    pub anonymous: Option<Name>,
+    pub keys: &'a [Key],
+    pub trusted_field: bool,
+}
+
+/// Looks whether what a server of this address sends has these parts, in this order; a part that
+/// begins a response is in the next one.
+pub(crate) fn look<R: Abort + Wait>(
     rt: &R,
     heap: Global,
-    keys: RandomState,
+    state: RandomState,
     base: &[u8],
-    sent: &str,
+    door: &Door,
+    sent: &[&str],
     received: &[&str],
 ) -> Result<(), Fail> {
     let mut world = filled(rt, heap);
@@ -83,20 +93,28 @@ fn look<R: Abort + Wait>(
         heap,
         host: Host {
             site: &site,
-            anonymous: Name::new(b"north"),
+            anonymous: door.anonymous,
+            keys: door.keys,
+            trusted_field: door.trusted_field,
         },
         session: Solo::new(&mut world, heap),
         kept: &kept,
     };
-    let mut connection = Connection::new(heap, keys, Config::default());
-    let mut input: &[u8] = sent.as_bytes();
+    let mut connection = Connection::new(heap, state, Config::default());
+    let mut bytes = Vec::new(heap);
+    for request in sent {
+        bytes.extend_from_slice(request.as_bytes())?;
+    }
+    let mut input: &[u8] = bytes.as_slice();
     let mut output = Vec::new(heap);
     serve(&mut connection, &mut counter, &mut input, &mut output)?;
     let mut rest = str::from_utf8(output.as_slice())?;
     for part in received {
-        let Some((_, behind)) = rest.split_once(*part) else {
+        let Some((before, behind)) = rest.split_once(*part) else {
             panic!(rt; "{part} is not in {rest}");
         };
+        let is_next = !part.starts_with("HTTP/1.1") || !before.contains("HTTP/1.1");
+        assert!(rt; is_next, "{part} is not next in {rest}");
         rest = behind;
     }
     Ok(())
@@ -104,19 +122,38 @@ fn look<R: Abort + Wait>(
 
 #[test]
 fn requests_on_one_connection(rt: HostRuntime) -> Result<(), Fail> {
-    let keys = RandomState::new(&rt)?;
-    look(&rt, rt.alloc(), keys, b"http://m", SENT, &RECEIVED)
+    let state = RandomState::new(&rt)?;
+    let door = Door {
+        anonymous: Name::new(b"north"),
+        keys: &[],
+        trusted_field: false,
+    };
+    look(
+        &rt,
+        rt.alloc(),
+        state,
+        b"http://m",
+        &door,
+        &[SENT],
+        &RECEIVED,
+    )
 }
 
 #[test]
 fn hosts_that_are_answered(rt: HostRuntime) -> Result<(), Fail> {
-    let keys = RandomState::new(&rt)?;
+    let state = RandomState::new(&rt)?;
+    let door = Door {
+        anonymous: Name::new(b"north"),
+        keys: &[],
+        trusted_field: false,
+    };
     look(
         &rt,
         rt.alloc(),
-        keys,
+        state,
         b"http://maps.example/land",
-        SENT_TO_HOSTS,
+        &door,
+        &[SENT_TO_HOSTS],
         &RECEIVED_FROM_HOSTS,
     )
 }

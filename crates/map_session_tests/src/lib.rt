@@ -2,6 +2,8 @@
 #![tactic(auto)]
 
 #[cfg(test)]
+mod asker_tests;
+#[cfg(test)]
 mod http_tests;
 #[cfg(test)]
 mod kept_tests;

@@ -1,4 +1,5 @@
 //! Requests to read, answered by a session over a world.
+use credentials::{Key, digest_of};
 use features::Name;
 use grid::{Between, Grid};
 use map_answers::{Answer, MediaType, Status};
@@ -175,11 +176,12 @@ const ASKED: [Asked; 15] = [
     ),
 ];
 
-/// What a request is answered.
+/// What a request is answered, to a subject or to nobody, where there are such keys.
 fn answered<S: Service>(
     rt: &impl Abort,
     heap: Global,
-    anonymous: Option<Name>,
+    keys: &[Key],
+    asker: Option<Name>,
     service: &mut S,
     kept: &mut Kept<Global>,
     asked: &Asked,
@@ -197,7 +199,9 @@ fn answered<S: Service>(
     };
     let host = Host {
         site: &site,
-        anonymous,
+        anonymous: None,
+        keys,
+        trusted_field: false,
     };
     let (path, query, known, ..) = *asked;
     let visit = Visit {
@@ -205,7 +209,7 @@ fn answered<S: Service>(
         query: query.as_bytes(),
         known: known.as_bytes(),
     };
-    match answer_visit(heap, &host, service, kept, &visit) {
+    match answer_visit(heap, &host, asker, service, kept, &visit) {
         Ok(answer) => answer,
         Err(_) => panic!(rt; "no memory"),
     }
@@ -219,7 +223,7 @@ fn requests_and_answers(rt: HostRuntime) -> Result<(), Fail> {
     let north = Name::new(b"north");
     for asked in &ASKED {
         let (path, query, _, status, media, body) = *asked;
-        let answer = answered(&rt, rt.alloc(), north, &mut solo, &mut kept, asked);
+        let answer = answered(&rt, rt.alloc(), &[], north, &mut solo, &mut kept, asked);
         assert_eq!(rt; answer.status, status, "{path} {query}");
         assert_eq!(rt; answer.media, media, "{path} {query}");
         assert!(rt;
@@ -236,11 +240,12 @@ fn who_asks(rt: HostRuntime) {
     let mut world = filled(&rt, rt.alloc());
     let mut solo = Solo::new(&mut world, rt.alloc());
     let mut kept = Kept::new(rt.alloc());
-    let nobody = answered(&rt, rt.alloc(), None, &mut solo, &mut kept, &ASKED[0]);
+    let nobody = answered(&rt, rt.alloc(), &[], None, &mut solo, &mut kept, &ASKED[0]);
     assert_eq!(rt; nobody.status, Status::Forbidden);
     let stranger = answered(
         &rt,
         rt.alloc(),
+        &[],
         Name::new(b"stranger"),
         &mut solo,
         &mut kept,
@@ -251,6 +256,67 @@ fn who_asks(rt: HostRuntime) {
         stranger.body.as_slice()
             == br#"{"type":"about:blank","title":"Forbidden","status":403,"code":"H1"}"#.as_slice()
     );
-    let landing = answered(&rt, rt.alloc(), None, &mut solo, &mut kept, &ASKED[12]);
+    let landing = answered(&rt, rt.alloc(), &[], None, &mut solo, &mut kept, &ASKED[12]);
     assert_eq!(rt; landing.status, Status::Success);
+}
+
+/// Nobody asks, where there are keys by which it could be said: for rows, for kept rows, for a
+/// feature, and for a page that nobody need ask for.
+#[test]
+fn nobody_beside_keys(rt: HostRuntime) -> Result<(), Fail> {
+    let mut world = filled(&rt, rt.alloc());
+    let mut solo = Solo::new(&mut world, rt.alloc());
+    let mut kept = Kept::new(rt.alloc());
+    let keys = [Key {
+        subject: Name::new(b"north").ok_or("a name")?,
+        digest: digest_of(b"secret"),
+    }];
+    let wanted = [
+        (0, Status::Unauthorized),
+        (1, Status::Gone),
+        (5, Status::Unauthorized),
+        (12, Status::Success),
+    ];
+    for (at, status) in wanted {
+        let answer = answered(
+            &rt,
+            rt.alloc(),
+            &keys,
+            None,
+            &mut solo,
+            &mut kept,
+            &ASKED[at],
+        );
+        assert_eq!(rt; answer.status, status);
+    }
+    Ok(())
+}
+
+/// Two subjects, one after another at one session: each has further pages of their own alone.
+#[test]
+fn subjects_one_after_another(rt: HostRuntime) {
+    let mut world = filled(&rt, rt.alloc());
+    let mut solo = Solo::new(&mut world, rt.alloc());
+    let mut kept = Kept::new(rt.alloc());
+    let wanted: [(&[u8], usize, Status); 6] = [
+        (b"north", 0, Status::Success),
+        (b"south", 1, Status::Gone),
+        (b"south", 5, Status::Success),
+        (b"north", 1, Status::Success),
+        (b"stranger", 0, Status::Forbidden),
+        (b"north", 1, Status::Success),
+    ];
+    for (name, at, status) in wanted {
+        let asker = Name::new(name);
+        let answer = answered(
+            &rt,
+            rt.alloc(),
+            &[],
+            asker,
+            &mut solo,
+            &mut kept,
+            &ASKED[at],
+        );
+        assert_eq!(rt; answer.status, status);
+    }
 }
