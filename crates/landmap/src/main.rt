@@ -16,6 +16,7 @@ use configuration::Config;
 use features::Subjects;
 use grid::Grid;
 use log::{Log, warn};
+use map_pages::Site;
 use memory::{NoMemory, another, buffered, shared, text};
 use policy_text::{Document, print_document};
 use program::{
@@ -214,7 +215,120 @@ fn planned(rt: &HostRuntime, server: WantedServer<'_>) -> Result<Plan, WebFault>
     })
 }
 
+/// How connections are served.
+#[derive(Clone, Copy)]
+struct Manner {
+    connections: Connections,
+    idle: Option<u64>,
+    takeover: bool,
+}
+
 /// Serves a socket until its last connection has ended, and returns the exit status. `own` is the
+/// hall's own handle; HTTP is answered at `place`, if it is.
+fn serve_work<H, R>(
+    rt: &R,
+    own: H,
+    heap: Global,
+    path: &str,
+    work: Work,
+    options: SocketOptions<'_>,
+    place: &str,
+    errors: &mut Stderr,
+) -> ExitCode
+where
+    H: Wait + Copy + Drop + Send,
+    R: Threads
+        + Wait
+        + Clock
+        + Log
+        + Files<File = File>
+        + Net<Stream = TcpStream, Listener = TcpListener>
+        + Print
+        + Sync,
+{
+    let served = match work {
+        Work::Passing(serving) => serve_socket(rt, own, heap, path, serving, options),
+        Work::Stored(keeping, store) => serve_kept(rt, own, heap, path, keeping, options, store),
+    };
+    match served {
+        Ok(closed) => conclude(rt, heap, closed, errors),
+        Err(ServerFault::Bind) => fail(&ProgramFault::CannotBind(path), errors),
+        Err(ServerFault::BindWeb) => fail(&ProgramFault::CannotBind(place), errors),
+        Err(ServerFault::Write(failed)) => fail(&ProgramFault::CannotWrite(failed), errors),
+        // The store has told what is wrong with it.
+        Err(ServerFault::Store(_)) => ExitCode::from(1),
+        Err(fault) => fail(&ProgramFault::Server(fault.code()), errors),
+    }
+}
+
+/// Serves as `serve_work` does, and answers HTTP by pages that speak of this site.
+fn serve_site<'a, H, R>(
+    rt: &R,
+    own: H,
+    heap: Global,
+    path: &str,
+    work: Work,
+    manner: Manner,
+    stop: &'a Stop,
+    plan: &'a WebPlan,
+    site: &'a Site<'a>,
+    errors: &mut Stderr,
+) -> ExitCode
+where
+    H: Wait + Copy + Drop + Send,
+    R: Threads
+        + Wait
+        + Clock
+        + Log
+        + Files<File = File>
+        + Net<Stream = TcpStream, Listener = TcpListener>
+        + Print
+        + Sync,
+{
+    let Manner {
+        connections,
+        idle,
+        takeover,
+    } = manner;
+    let web = plan.web(site);
+    let options = SocketOptions {
+        connections,
+        idle,
+        takeover,
+        stop: Some(stop),
+        web: Some(&web),
+    };
+    serve_work(rt, own, heap, path, work, options, plan.shown(), errors)
+}
+
+/// Serves as `serve_work` does, and answers HTTP as planned.
+fn serve_web<H, R>(
+    rt: &R,
+    own: H,
+    heap: Global,
+    path: &str,
+    work: Work,
+    manner: Manner,
+    stop: &Stop,
+    plan: &WebPlan,
+    errors: &mut Stderr,
+) -> ExitCode
+where
+    H: Wait + Copy + Drop + Send,
+    R: Threads
+        + Wait
+        + Clock
+        + Log
+        + Files<File = File>
+        + Net<Stream = TcpStream, Listener = TcpListener>
+        + Print
+        + Sync,
+{
+    let site = plan.site();
+    serve_site(rt, own, heap, path, work, manner, stop, plan, &site, errors)
+}
+
+/// Serves as planned until the last connection has ended, and returns the exit status. `own` is the
 /// hall's own handle.
 fn serve<H, R>(rt: &R, own: H, heap: Global, plan: Plan, errors: &mut Stderr) -> ExitCode
 where
@@ -234,54 +348,27 @@ where
         connections,
         idle,
         takeover,
-        web: plan,
+        web,
         stop,
         stopping: _stopping,
     } = plan;
-    let site = plan.as_ref().map(|plan| plan.site());
-    let web = match (&plan, &site) {
-        (Some(plan), Some(site)) => Some(plan.web(site)),
-        _ => None,
-    };
-    let web = web.as_ref();
-    let socket_options = SocketOptions {
+    let path = path.as_str();
+    if let Some(plan) = &web {
+        let manner = Manner {
+            connections,
+            idle,
+            takeover,
+        };
+        return serve_web(rt, own, heap, path, work, manner, &stop, plan, errors);
+    }
+    let options = SocketOptions {
         connections,
         idle,
         takeover,
         stop: Some(&stop),
-        web,
+        web: None,
     };
-    let served = match work {
-        Work::Passing(serving) => serve_socket(
-            rt,
-            own,
-            heap,
-            path.as_str(),
-            serving,
-            socket_options,
-        ),
-        Work::Stored(keeping, store) => serve_kept(
-            rt,
-            own,
-            heap,
-            path.as_str(),
-            keeping,
-            socket_options,
-            store,
-        ),
-    };
-    match served {
-        Ok(closed) => conclude(rt, heap, closed, errors),
-        Err(ServerFault::Bind) => fail(&ProgramFault::CannotBind(path.as_str()), errors),
-        Err(ServerFault::BindWeb) => {
-            let place = plan.as_ref().map_or("", |plan| plan.shown());
-            fail(&ProgramFault::CannotBind(place), errors)
-        }
-        Err(ServerFault::Write(failed)) => fail(&ProgramFault::CannotWrite(failed), errors),
-        // The store has told what is wrong with it.
-        Err(ServerFault::Store(_)) => ExitCode::from(1),
-        Err(fault) => fail(&ProgramFault::Server(fault.code()), errors),
-    }
+    serve_work(rt, own, heap, path, work, options, "", errors)
 }
 
 /// Writes how many records a server has left, and returns the exit status.
