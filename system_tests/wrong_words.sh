@@ -10,7 +10,7 @@ says() {
 }
 says 2 "Usage: landmap <COMMAND>"
 says 0 "Usage: landmap <COMMAND>" --help
-for command in script serve connect check draw man completions; do
+for command in script serve connect check draw secret man completions; do
     says 0 "Usage: landmap $command" "$command" --help
 done
 says 2 "error: " scripts
@@ -21,6 +21,8 @@ says 2 "error: " serve --socket map.sock --connections 1025
 says 2 "error: " serve --socket map.sock --connections 1 --workers 1025
 says 2 "error: " serve --socket map.sock --connections 1 --idle 0
 says 2 "error: " serve --socket map.sock --connections 1 --idle 86401
+says 2 "<NAME>" secret
+says 2 "invalid value 'Ines'" secret Ines
 says 2 "invalid value 'tcsh'" completions tcsh
 says 2 "not UTF-8" script $'\xff'
 says 1 "landmap: cannot read no/such.map" script no/such.map

@@ -17,7 +17,7 @@ use Rattle.clap.specs.Words.{subcommand_name_of, subcommand_of, subcommand_rows,
 use Rattle.clap.specs.declared.parser.matches.ArgMatches.{ArgMatches}
 use Rattle.clap.specs.declared.parser.matches.ArgMatches.TheViews.{out-ArgMatches, out-SubCommand}
 use Rattle.clap.specs.declared.parser.matches.SubCommand.{SubCommand}
-use Rattle.command_line.specs.CommandLine.{check_line, command_for, command_line, completions_line, connect_line, draw_line, export_line, features_rule, flag_rule, import_line, man_line, needed, option_rule, refusals, script_line, serve_line, store_line, up_to}
+use Rattle.command_line.specs.CommandLine.{check_line, command_for, command_line, completions_line, connect_line, draw_line, export_line, features_rule, flag_rule, import_line, man_line, needed, option_rule, refusals, script_line, secret_line, serve_line, store_line, up_to}
 use Rattle.command_line.specs.declared.options.TheConstants.{CONNECTION_LIMIT, FIRST_ID_LIMIT, HTTP_WORKER_LIMIT, IDLE_LIMIT, WORKER_LIMIT}
 use Rattle.command_line.proofs.HelpLemmas.{EntersNoHelp, IsNoHelp, walk_no_help}
 use Rattle.command_line.proofs.NumberLemmas.{Passes, has_first, passes}
@@ -51,6 +51,9 @@ import_built = built_below import_line
 
 abbrev store_built : Shape
 store_built = built_below store_line
+
+abbrev secret_built : Shape
+secret_built = built_below secret_line
 
 abbrev man_built : Shape
 man_built = built_below man_line
@@ -99,6 +102,9 @@ folder_rule = with_index 2 (filled (needed (new_rule (codes "DIR"))))
 
 abbrev pub stored_rule : Rule
 stored_rule = filled (flag_rule (codes "features"))
+
+abbrev name_rule : Rule
+name_rule = with_index 1 (filled (needed (new_rule (codes "NAME"))))
 
 abbrev config_rule : Rule
 config_rule = filled (needed (option_rule (codes "config")))
@@ -151,6 +157,9 @@ import_known = (record { plain = inl (tt, inl refl); own = refl; defaults = refl
 store_known : AreKnown store_built.rules store_built.rules
 store_known = (record { plain = inl (tt, inl refl); own = refl; defaults = refl }, (record { plain = inl (tt, inl refl); own = refl; defaults = refl }, (record { plain = inl (tt, inr tt); own = refl; defaults = refl }, (record { plain = inr refl; own = refl; defaults = refl }, tt))))
 
+secret_known : AreKnown secret_built.rules secret_built.rules
+secret_known = (record { plain = inl (tt, inl refl); own = refl; defaults = refl }, (record { plain = inr refl; own = refl; defaults = refl }, tt))
+
 completions_known : AreKnown completions_built.rules completions_built.rules
 completions_known = (record { plain = inl (tt, inl refl); own = refl; defaults = refl }, (record { plain = inr refl; own = refl; defaults = refl }, tt))
 
@@ -193,6 +202,10 @@ pub record NeedsStore (rows : List Row) : Type 0 where
   pub action : is_some (first_of (codes "ACTION") rows) ≡ true
   pub folder : is_some (first_of (codes "DIR") rows) ≡ true
   pub features : Passes stored_rule rows
+
+-- `secret` has its name
+abbrev pub NamesName : List Row → Type 0
+NamesName rows = is_some (first_of (codes "NAME") rows) ≡ true
 
 -- `completions` has its shell
 abbrev pub NamesShell : List Row → Type 0
@@ -311,6 +324,13 @@ store_passed words e =
       features = passes rules stored_rule rows refl passed;
     }
 
+secret_passed : (words : List Text) → level_fault secret_built [] nothing_held words false [] ≡ [] → NamesName (rows_at secret_built words).1
+secret_passed words e =
+    let rows = finished secret_built.rules (walk secret_built.rules [] nothing_held words).held in
+    let passed : ArePassed secret_built.rules rows = level_passed secret_built [] words false [] secret_known e in
+    let name : Passes name_rule rows = passes secret_built.rules name_rule rows refl passed in
+    has_first name_rule rows name (wanted (is_given (codes "NAME") rows) (level_steps secret_built [] words false [] e).3)
+
 completions_passed : (words : List Text) → level_fault completions_built [] nothing_held words false [] ≡ [] → NamesShell (rows_at completions_built words).1
 completions_passed words e =
     let rows = finished completions_built.rules (walk completions_built.rules [] nothing_held words).held in
@@ -328,6 +348,7 @@ pub data IsTaken (taken : Option (Text × List Row)) : Type 0 where
   takes_export : (rows : List Row) → taken ≡ Some (codes "export", rows) → NeedsExport rows → IsTaken taken
   takes_import : (rows : List Row) → taken ≡ Some (codes "import", rows) → NeedsImport rows → IsTaken taken
   takes_store : (rows : List Row) → taken ≡ Some (codes "store", rows) → NeedsStore rows → IsTaken taken
+  takes_secret : (rows : List Row) → taken ≡ Some (codes "secret", rows) → NamesName rows → IsTaken taken
   takes_man : (rows : List Row) → taken ≡ Some (codes "man", rows) → IsTaken taken
   takes_completions : (rows : List Row) → taken ≡ Some (codes "completions", rows) → NamesShell rows → IsTaken taken
 
@@ -350,8 +371,8 @@ no_help name other = by (bytes_eq (codes "help") name) refl
     by true is = absurd (true≢false (subst (λ n. IsNoHelp n) (sym ((bytes_eq-Decides (codes "help") name).0 is)) other))
 
 -- the subcommand of a name, by whether it is each of them
-abbrev by_name : Bool → Bool → Bool → Bool → Bool → Bool → Bool → Bool → Bool → Bool → Bool → Option Shape
-by_name is_script is_serve is_connect is_check is_draw is_export is_import is_store is_man is_completions is_help =
+abbrev by_name : Bool → Bool → Bool → Bool → Bool → Bool → Bool → Bool → Bool → Bool → Bool → Bool → Option Shape
+by_name is_script is_serve is_connect is_check is_draw is_export is_import is_store is_secret is_man is_completions is_help =
     if is_script then Some script_built
     else (if is_serve then Some serve_built
     else (if is_connect then Some connect_built
@@ -360,27 +381,29 @@ by_name is_script is_serve is_connect is_check is_draw is_export is_import is_st
     else (if is_export then Some export_built
     else (if is_import then Some import_built
     else (if is_store then Some store_built
+    else (if is_secret then Some secret_built
     else (if is_man then Some man_built
     else (if is_completions then Some completions_built
-    else (if is_help then Some help_built else None))))))))))
+    else (if is_help then Some help_built else None)))))))))))
 
 -- the entered subcommand is not `help`
-one_entered : (rows : List Row) (words : List Text) (is_script is_serve is_connect is_check is_draw is_export is_import is_store is_man is_completions is_help : Bool) → is_help ≡ false
-    → option_map_or (λ s. level_fault s [] nothing_held words false []) (by_name is_script is_serve is_connect is_check is_draw is_export is_import is_store is_man is_completions is_help) [] ≡ []
-    → check_fault app.top rows (is_some (option_map (λ s. rows_at s words) (by_name is_script is_serve is_connect is_check is_draw is_export is_import is_store is_man is_completions is_help))) ≡ []
-    → IsTaken (option_map (λ s. rows_at s words) (by_name is_script is_serve is_connect is_check is_draw is_export is_import is_store is_man is_completions is_help))
-one_entered rows words true is_serve is_connect is_check is_draw is_export is_import is_store is_man is_completions is_help other below check = IsTaken.takes_script (rows_at script_built words).1 refl (script_passed words below)
-one_entered rows words false true is_connect is_check is_draw is_export is_import is_store is_man is_completions is_help other below check = IsTaken.takes_serve (rows_at serve_built words).1 refl (serve_passed words below)
-one_entered rows words false false true is_check is_draw is_export is_import is_store is_man is_completions is_help other below check = IsTaken.takes_connect (rows_at connect_built words).1 refl (connect_passed words below)
-one_entered rows words false false false true is_draw is_export is_import is_store is_man is_completions is_help other below check = IsTaken.takes_check (rows_at check_built words).1 refl (check_passed words below)
-one_entered rows words false false false false true is_export is_import is_store is_man is_completions is_help other below check = IsTaken.takes_draw (rows_at draw_built words).1 refl (draw_passed words below)
-one_entered rows words false false false false false true is_import is_store is_man is_completions is_help other below check = IsTaken.takes_export (rows_at export_built words).1 refl (export_passed words below)
-one_entered rows words false false false false false false true is_store is_man is_completions is_help other below check = IsTaken.takes_import (rows_at import_built words).1 refl (import_passed words below)
-one_entered rows words false false false false false false false true is_man is_completions is_help other below check = IsTaken.takes_store (rows_at store_built words).1 refl (store_passed words below)
-one_entered rows words false false false false false false false false true is_completions is_help other below check = IsTaken.takes_man (rows_at man_built words).1 refl
-one_entered rows words false false false false false false false false false true is_help other below check = IsTaken.takes_completions (rows_at completions_built words).1 refl (completions_passed words below)
-one_entered rows words false false false false false false false false false false true other below check = absurd (true≢false other)
-one_entered rows words false false false false false false false false false false false other below check = absurd (none_entered rows check)
+one_entered : (rows : List Row) (words : List Text) (is_script is_serve is_connect is_check is_draw is_export is_import is_store is_secret is_man is_completions is_help : Bool) → is_help ≡ false
+    → option_map_or (λ s. level_fault s [] nothing_held words false []) (by_name is_script is_serve is_connect is_check is_draw is_export is_import is_store is_secret is_man is_completions is_help) [] ≡ []
+    → check_fault app.top rows (is_some (option_map (λ s. rows_at s words) (by_name is_script is_serve is_connect is_check is_draw is_export is_import is_store is_secret is_man is_completions is_help))) ≡ []
+    → IsTaken (option_map (λ s. rows_at s words) (by_name is_script is_serve is_connect is_check is_draw is_export is_import is_store is_secret is_man is_completions is_help))
+one_entered rows words true is_serve is_connect is_check is_draw is_export is_import is_store is_secret is_man is_completions is_help other below check = IsTaken.takes_script (rows_at script_built words).1 refl (script_passed words below)
+one_entered rows words false true is_connect is_check is_draw is_export is_import is_store is_secret is_man is_completions is_help other below check = IsTaken.takes_serve (rows_at serve_built words).1 refl (serve_passed words below)
+one_entered rows words false false true is_check is_draw is_export is_import is_store is_secret is_man is_completions is_help other below check = IsTaken.takes_connect (rows_at connect_built words).1 refl (connect_passed words below)
+one_entered rows words false false false true is_draw is_export is_import is_store is_secret is_man is_completions is_help other below check = IsTaken.takes_check (rows_at check_built words).1 refl (check_passed words below)
+one_entered rows words false false false false true is_export is_import is_store is_secret is_man is_completions is_help other below check = IsTaken.takes_draw (rows_at draw_built words).1 refl (draw_passed words below)
+one_entered rows words false false false false false true is_import is_store is_secret is_man is_completions is_help other below check = IsTaken.takes_export (rows_at export_built words).1 refl (export_passed words below)
+one_entered rows words false false false false false false true is_store is_secret is_man is_completions is_help other below check = IsTaken.takes_import (rows_at import_built words).1 refl (import_passed words below)
+one_entered rows words false false false false false false false true is_secret is_man is_completions is_help other below check = IsTaken.takes_store (rows_at store_built words).1 refl (store_passed words below)
+one_entered rows words false false false false false false false false true is_man is_completions is_help other below check = IsTaken.takes_secret (rows_at secret_built words).1 refl (secret_passed words below)
+one_entered rows words false false false false false false false false false true is_completions is_help other below check = IsTaken.takes_man (rows_at man_built words).1 refl
+one_entered rows words false false false false false false false false false false true is_help other below check = IsTaken.takes_completions (rows_at completions_built words).1 refl (completions_passed words below)
+one_entered rows words false false false false false false false false false false false true other below check = absurd (true≢false other)
+one_entered rows words false false false false false false false false false false false false other below check = absurd (none_entered rows check)
 
 -- if clap accepts the words, they name a subcommand, which has what it needs
 pub taken : (words : List Text) → refusals words ≡ [] → IsTaken (subcommand_of command_line words)
@@ -392,7 +415,7 @@ taken words e =
   where
     by : (stop : Option (Text × List Text)) → EntersNoHelp stop → (rows : List Row) → entered_fault app stop ≡ [] → check_fault app.top rows (is_some (entered app stop)) ≡ [] → IsTaken (entered app stop)
     by None n rows below check = absurd (none_entered rows check)
-    by (Some stop) n rows below check = one_entered rows stop.1 (bytes_eq (codes "script") stop.0 || false) (bytes_eq (codes "serve") stop.0 || false) (bytes_eq (codes "connect") stop.0 || false) (bytes_eq (codes "check") stop.0 || false) (bytes_eq (codes "draw") stop.0 || false) (bytes_eq (codes "export") stop.0 || false) (bytes_eq (codes "import") stop.0 || false) (bytes_eq (codes "store") stop.0 || false) (bytes_eq (codes "man") stop.0 || false) (bytes_eq (codes "completions") stop.0 || false) (bytes_eq (codes "help") stop.0 || false) (no_help stop.0 n) below check
+    by (Some stop) n rows below check = one_entered rows stop.1 (bytes_eq (codes "script") stop.0 || false) (bytes_eq (codes "serve") stop.0 || false) (bytes_eq (codes "connect") stop.0 || false) (bytes_eq (codes "check") stop.0 || false) (bytes_eq (codes "draw") stop.0 || false) (bytes_eq (codes "export") stop.0 || false) (bytes_eq (codes "import") stop.0 || false) (bytes_eq (codes "store") stop.0 || false) (bytes_eq (codes "secret") stop.0 || false) (bytes_eq (codes "man") stop.0 || false) (bytes_eq (codes "completions") stop.0 || false) (bytes_eq (codes "help") stop.0 || false) (no_help stop.0 n) below check
 
 -- ---- what a subcommand of each name has
 
@@ -410,6 +433,7 @@ at_script o (IsTaken.takes_draw rows is h) = subst (AtName (codes "script") Need
 at_script o (IsTaken.takes_export rows is h) = subst (AtName (codes "script") NeedsFile) (sym is) (λ same. absurd (true≢false (ap (bytes_eq (codes "export")) same)))
 at_script o (IsTaken.takes_import rows is h) = subst (AtName (codes "script") NeedsFile) (sym is) (λ same. absurd (true≢false (ap (bytes_eq (codes "import")) same)))
 at_script o (IsTaken.takes_store rows is h) = subst (AtName (codes "script") NeedsFile) (sym is) (λ same. absurd (true≢false (ap (bytes_eq (codes "store")) same)))
+at_script o (IsTaken.takes_secret rows is h) = subst (AtName (codes "script") NeedsFile) (sym is) (λ same. absurd (true≢false (ap (bytes_eq (codes "secret")) same)))
 at_script o (IsTaken.takes_man rows is) = subst (AtName (codes "script") NeedsFile) (sym is) (λ same. absurd (true≢false (ap (bytes_eq (codes "man")) same)))
 at_script o (IsTaken.takes_completions rows is h) = subst (AtName (codes "script") NeedsFile) (sym is) (λ same. absurd (true≢false (ap (bytes_eq (codes "completions")) same)))
 
@@ -425,6 +449,7 @@ at_serve o (IsTaken.takes_draw rows is h) = subst (AtName (codes "serve") HasNee
 at_serve o (IsTaken.takes_export rows is h) = subst (AtName (codes "serve") HasNeeded) (sym is) (λ same. absurd (true≢false (ap (bytes_eq (codes "export")) same)))
 at_serve o (IsTaken.takes_import rows is h) = subst (AtName (codes "serve") HasNeeded) (sym is) (λ same. absurd (true≢false (ap (bytes_eq (codes "import")) same)))
 at_serve o (IsTaken.takes_store rows is h) = subst (AtName (codes "serve") HasNeeded) (sym is) (λ same. absurd (true≢false (ap (bytes_eq (codes "store")) same)))
+at_serve o (IsTaken.takes_secret rows is h) = subst (AtName (codes "serve") HasNeeded) (sym is) (λ same. absurd (true≢false (ap (bytes_eq (codes "secret")) same)))
 at_serve o (IsTaken.takes_man rows is) = subst (AtName (codes "serve") HasNeeded) (sym is) (λ same. absurd (true≢false (ap (bytes_eq (codes "man")) same)))
 at_serve o (IsTaken.takes_completions rows is h) = subst (AtName (codes "serve") HasNeeded) (sym is) (λ same. absurd (true≢false (ap (bytes_eq (codes "completions")) same)))
 
@@ -440,6 +465,7 @@ at_connect o (IsTaken.takes_draw rows is h) = subst (AtName (codes "connect") Na
 at_connect o (IsTaken.takes_export rows is h) = subst (AtName (codes "connect") NamesSocket) (sym is) (λ same. absurd (true≢false (ap (bytes_eq (codes "export")) same)))
 at_connect o (IsTaken.takes_import rows is h) = subst (AtName (codes "connect") NamesSocket) (sym is) (λ same. absurd (true≢false (ap (bytes_eq (codes "import")) same)))
 at_connect o (IsTaken.takes_store rows is h) = subst (AtName (codes "connect") NamesSocket) (sym is) (λ same. absurd (true≢false (ap (bytes_eq (codes "store")) same)))
+at_connect o (IsTaken.takes_secret rows is h) = subst (AtName (codes "connect") NamesSocket) (sym is) (λ same. absurd (true≢false (ap (bytes_eq (codes "secret")) same)))
 at_connect o (IsTaken.takes_man rows is) = subst (AtName (codes "connect") NamesSocket) (sym is) (λ same. absurd (true≢false (ap (bytes_eq (codes "man")) same)))
 at_connect o (IsTaken.takes_completions rows is h) = subst (AtName (codes "connect") NamesSocket) (sym is) (λ same. absurd (true≢false (ap (bytes_eq (codes "completions")) same)))
 
@@ -455,6 +481,7 @@ at_check o (IsTaken.takes_draw rows is h) = subst (AtName (codes "check") NamesC
 at_check o (IsTaken.takes_export rows is h) = subst (AtName (codes "check") NamesConfig) (sym is) (λ same. absurd (true≢false (ap (bytes_eq (codes "export")) same)))
 at_check o (IsTaken.takes_import rows is h) = subst (AtName (codes "check") NamesConfig) (sym is) (λ same. absurd (true≢false (ap (bytes_eq (codes "import")) same)))
 at_check o (IsTaken.takes_store rows is h) = subst (AtName (codes "check") NamesConfig) (sym is) (λ same. absurd (true≢false (ap (bytes_eq (codes "store")) same)))
+at_check o (IsTaken.takes_secret rows is h) = subst (AtName (codes "check") NamesConfig) (sym is) (λ same. absurd (true≢false (ap (bytes_eq (codes "secret")) same)))
 at_check o (IsTaken.takes_man rows is) = subst (AtName (codes "check") NamesConfig) (sym is) (λ same. absurd (true≢false (ap (bytes_eq (codes "man")) same)))
 at_check o (IsTaken.takes_completions rows is h) = subst (AtName (codes "check") NamesConfig) (sym is) (λ same. absurd (true≢false (ap (bytes_eq (codes "completions")) same)))
 
@@ -470,6 +497,7 @@ at_draw o (IsTaken.takes_draw rows is h) = subst (AtName (codes "draw") NamesScr
 at_draw o (IsTaken.takes_export rows is h) = subst (AtName (codes "draw") NamesScript) (sym is) (λ same. absurd (true≢false (ap (bytes_eq (codes "export")) same)))
 at_draw o (IsTaken.takes_import rows is h) = subst (AtName (codes "draw") NamesScript) (sym is) (λ same. absurd (true≢false (ap (bytes_eq (codes "import")) same)))
 at_draw o (IsTaken.takes_store rows is h) = subst (AtName (codes "draw") NamesScript) (sym is) (λ same. absurd (true≢false (ap (bytes_eq (codes "store")) same)))
+at_draw o (IsTaken.takes_secret rows is h) = subst (AtName (codes "draw") NamesScript) (sym is) (λ same. absurd (true≢false (ap (bytes_eq (codes "secret")) same)))
 at_draw o (IsTaken.takes_man rows is) = subst (AtName (codes "draw") NamesScript) (sym is) (λ same. absurd (true≢false (ap (bytes_eq (codes "man")) same)))
 at_draw o (IsTaken.takes_completions rows is h) = subst (AtName (codes "draw") NamesScript) (sym is) (λ same. absurd (true≢false (ap (bytes_eq (codes "completions")) same)))
 
@@ -485,6 +513,7 @@ at_export o (IsTaken.takes_draw rows is h) = subst (AtName (codes "export") Need
 at_export o (IsTaken.takes_export rows is h) = subst (AtName (codes "export") NeedsExport) (sym is) (λ same. h)
 at_export o (IsTaken.takes_import rows is h) = subst (AtName (codes "export") NeedsExport) (sym is) (λ same. absurd (true≢false (ap (bytes_eq (codes "import")) same)))
 at_export o (IsTaken.takes_store rows is h) = subst (AtName (codes "export") NeedsExport) (sym is) (λ same. absurd (true≢false (ap (bytes_eq (codes "store")) same)))
+at_export o (IsTaken.takes_secret rows is h) = subst (AtName (codes "export") NeedsExport) (sym is) (λ same. absurd (true≢false (ap (bytes_eq (codes "secret")) same)))
 at_export o (IsTaken.takes_man rows is) = subst (AtName (codes "export") NeedsExport) (sym is) (λ same. absurd (true≢false (ap (bytes_eq (codes "man")) same)))
 at_export o (IsTaken.takes_completions rows is h) = subst (AtName (codes "export") NeedsExport) (sym is) (λ same. absurd (true≢false (ap (bytes_eq (codes "completions")) same)))
 
@@ -500,6 +529,7 @@ at_import o (IsTaken.takes_draw rows is h) = subst (AtName (codes "import") Need
 at_import o (IsTaken.takes_export rows is h) = subst (AtName (codes "import") NeedsImport) (sym is) (λ same. absurd (true≢false (ap (bytes_eq (codes "export")) same)))
 at_import o (IsTaken.takes_import rows is h) = subst (AtName (codes "import") NeedsImport) (sym is) (λ same. h)
 at_import o (IsTaken.takes_store rows is h) = subst (AtName (codes "import") NeedsImport) (sym is) (λ same. absurd (true≢false (ap (bytes_eq (codes "store")) same)))
+at_import o (IsTaken.takes_secret rows is h) = subst (AtName (codes "import") NeedsImport) (sym is) (λ same. absurd (true≢false (ap (bytes_eq (codes "secret")) same)))
 at_import o (IsTaken.takes_man rows is) = subst (AtName (codes "import") NeedsImport) (sym is) (λ same. absurd (true≢false (ap (bytes_eq (codes "man")) same)))
 at_import o (IsTaken.takes_completions rows is h) = subst (AtName (codes "import") NeedsImport) (sym is) (λ same. absurd (true≢false (ap (bytes_eq (codes "completions")) same)))
 
@@ -515,11 +545,28 @@ at_store o (IsTaken.takes_draw rows is h) = subst (AtName (codes "store") NeedsS
 at_store o (IsTaken.takes_export rows is h) = subst (AtName (codes "store") NeedsStore) (sym is) (λ same. absurd (true≢false (ap (bytes_eq (codes "export")) same)))
 at_store o (IsTaken.takes_import rows is h) = subst (AtName (codes "store") NeedsStore) (sym is) (λ same. absurd (true≢false (ap (bytes_eq (codes "import")) same)))
 at_store o (IsTaken.takes_store rows is h) = subst (AtName (codes "store") NeedsStore) (sym is) (λ same. h)
+at_store o (IsTaken.takes_secret rows is h) = subst (AtName (codes "store") NeedsStore) (sym is) (λ same. absurd (true≢false (ap (bytes_eq (codes "secret")) same)))
 at_store o (IsTaken.takes_man rows is) = subst (AtName (codes "store") NeedsStore) (sym is) (λ same. absurd (true≢false (ap (bytes_eq (codes "man")) same)))
 at_store o (IsTaken.takes_completions rows is h) = subst (AtName (codes "store") NeedsStore) (sym is) (λ same. absurd (true≢false (ap (bytes_eq (codes "completions")) same)))
 
 pub store_has_needed : (words : List Text) (rows : List Row) → refusals words ≡ [] → subcommand_of command_line words ≡ Some (codes "store", rows) → NeedsStore rows
 store_has_needed words rows e is = subst (AtName (codes "store") NeedsStore) is (at_store (subcommand_of command_line words) (taken words e)) refl
+
+at_secret : (o : Option (Text × List Row)) → IsTaken o → AtName (codes "secret") NamesName o
+at_secret o (IsTaken.takes_script rows is h) = subst (AtName (codes "secret") NamesName) (sym is) (λ same. absurd (true≢false (ap (bytes_eq (codes "script")) same)))
+at_secret o (IsTaken.takes_serve rows is h) = subst (AtName (codes "secret") NamesName) (sym is) (λ same. absurd (true≢false (ap (bytes_eq (codes "serve")) same)))
+at_secret o (IsTaken.takes_connect rows is h) = subst (AtName (codes "secret") NamesName) (sym is) (λ same. absurd (true≢false (ap (bytes_eq (codes "connect")) same)))
+at_secret o (IsTaken.takes_check rows is h) = subst (AtName (codes "secret") NamesName) (sym is) (λ same. absurd (true≢false (ap (bytes_eq (codes "check")) same)))
+at_secret o (IsTaken.takes_draw rows is h) = subst (AtName (codes "secret") NamesName) (sym is) (λ same. absurd (true≢false (ap (bytes_eq (codes "draw")) same)))
+at_secret o (IsTaken.takes_export rows is h) = subst (AtName (codes "secret") NamesName) (sym is) (λ same. absurd (true≢false (ap (bytes_eq (codes "export")) same)))
+at_secret o (IsTaken.takes_import rows is h) = subst (AtName (codes "secret") NamesName) (sym is) (λ same. absurd (true≢false (ap (bytes_eq (codes "import")) same)))
+at_secret o (IsTaken.takes_store rows is h) = subst (AtName (codes "secret") NamesName) (sym is) (λ same. absurd (true≢false (ap (bytes_eq (codes "store")) same)))
+at_secret o (IsTaken.takes_secret rows is h) = subst (AtName (codes "secret") NamesName) (sym is) (λ same. h)
+at_secret o (IsTaken.takes_man rows is) = subst (AtName (codes "secret") NamesName) (sym is) (λ same. absurd (true≢false (ap (bytes_eq (codes "man")) same)))
+at_secret o (IsTaken.takes_completions rows is h) = subst (AtName (codes "secret") NamesName) (sym is) (λ same. absurd (true≢false (ap (bytes_eq (codes "completions")) same)))
+
+pub secret_has_name : (words : List Text) (rows : List Row) → refusals words ≡ [] → subcommand_of command_line words ≡ Some (codes "secret", rows) → NamesName rows
+secret_has_name words rows e is = subst (AtName (codes "secret") NamesName) is (at_secret (subcommand_of command_line words) (taken words e)) refl
 
 at_completions : (o : Option (Text × List Row)) → IsTaken o → AtName (codes "completions") NamesShell o
 at_completions o (IsTaken.takes_script rows is h) = subst (AtName (codes "completions") NamesShell) (sym is) (λ same. absurd (true≢false (ap (bytes_eq (codes "script")) same)))
@@ -530,6 +577,7 @@ at_completions o (IsTaken.takes_draw rows is h) = subst (AtName (codes "completi
 at_completions o (IsTaken.takes_export rows is h) = subst (AtName (codes "completions") NamesShell) (sym is) (λ same. absurd (true≢false (ap (bytes_eq (codes "export")) same)))
 at_completions o (IsTaken.takes_import rows is h) = subst (AtName (codes "completions") NamesShell) (sym is) (λ same. absurd (true≢false (ap (bytes_eq (codes "import")) same)))
 at_completions o (IsTaken.takes_store rows is h) = subst (AtName (codes "completions") NamesShell) (sym is) (λ same. absurd (true≢false (ap (bytes_eq (codes "store")) same)))
+at_completions o (IsTaken.takes_secret rows is h) = subst (AtName (codes "completions") NamesShell) (sym is) (λ same. absurd (true≢false (ap (bytes_eq (codes "secret")) same)))
 at_completions o (IsTaken.takes_man rows is) = subst (AtName (codes "completions") NamesShell) (sym is) (λ same. absurd (true≢false (ap (bytes_eq (codes "man")) same)))
 at_completions o (IsTaken.takes_completions rows is h) = subst (AtName (codes "completions") NamesShell) (sym is) (λ same. h)
 
@@ -546,6 +594,7 @@ pub data IsNamed (name : Option Text) : Type 0 where
   names_export : name ≡ Some (codes "export") → IsNamed name
   names_import : name ≡ Some (codes "import") → IsNamed name
   names_store : name ≡ Some (codes "store") → IsNamed name
+  names_secret : name ≡ Some (codes "secret") → IsNamed name
   names_man : name ≡ Some (codes "man") → IsNamed name
   names_completions : name ≡ Some (codes "completions") → IsNamed name
 
@@ -562,21 +611,23 @@ one_named words e = by (subcommand_of command_line words) (taken words e)
     by o (IsTaken.takes_export rows is h) = IsNamed.names_export (ap (option_map (λ (sub : Text × List Row). sub.0)) is)
     by o (IsTaken.takes_import rows is h) = IsNamed.names_import (ap (option_map (λ (sub : Text × List Row). sub.0)) is)
     by o (IsTaken.takes_store rows is h) = IsNamed.names_store (ap (option_map (λ (sub : Text × List Row). sub.0)) is)
+    by o (IsTaken.takes_secret rows is h) = IsNamed.names_secret (ap (option_map (λ (sub : Text × List Row). sub.0)) is)
     by o (IsTaken.takes_man rows is) = IsNamed.names_man (ap (option_map (λ (sub : Text × List Row). sub.0)) is)
     by o (IsTaken.takes_completions rows is h) = IsNamed.names_completions (ap (option_map (λ (sub : Text × List Row). sub.0)) is)
 
 -- so it cannot be that none is
-pub none_left : (name : Option Text) → IsNamed name → (name ≡ Some (codes "script") → ⊥) → (name ≡ Some (codes "serve") → ⊥) → (name ≡ Some (codes "connect") → ⊥) → (name ≡ Some (codes "check") → ⊥) → (name ≡ Some (codes "draw") → ⊥) → (name ≡ Some (codes "export") → ⊥) → (name ≡ Some (codes "import") → ⊥) → (name ≡ Some (codes "store") → ⊥) → (name ≡ Some (codes "man") → ⊥) → (name ≡ Some (codes "completions") → ⊥) → ⊥
-none_left name (IsNamed.names_script is) no_script no_serve no_connect no_check no_draw no_export no_import no_store no_man no_completions = no_script is
-none_left name (IsNamed.names_serve is) no_script no_serve no_connect no_check no_draw no_export no_import no_store no_man no_completions = no_serve is
-none_left name (IsNamed.names_connect is) no_script no_serve no_connect no_check no_draw no_export no_import no_store no_man no_completions = no_connect is
-none_left name (IsNamed.names_check is) no_script no_serve no_connect no_check no_draw no_export no_import no_store no_man no_completions = no_check is
-none_left name (IsNamed.names_draw is) no_script no_serve no_connect no_check no_draw no_export no_import no_store no_man no_completions = no_draw is
-none_left name (IsNamed.names_export is) no_script no_serve no_connect no_check no_draw no_export no_import no_store no_man no_completions = no_export is
-none_left name (IsNamed.names_import is) no_script no_serve no_connect no_check no_draw no_export no_import no_store no_man no_completions = no_import is
-none_left name (IsNamed.names_store is) no_script no_serve no_connect no_check no_draw no_export no_import no_store no_man no_completions = no_store is
-none_left name (IsNamed.names_man is) no_script no_serve no_connect no_check no_draw no_export no_import no_store no_man no_completions = no_man is
-none_left name (IsNamed.names_completions is) no_script no_serve no_connect no_check no_draw no_export no_import no_store no_man no_completions = no_completions is
+pub none_left : (name : Option Text) → IsNamed name → (name ≡ Some (codes "script") → ⊥) → (name ≡ Some (codes "serve") → ⊥) → (name ≡ Some (codes "connect") → ⊥) → (name ≡ Some (codes "check") → ⊥) → (name ≡ Some (codes "draw") → ⊥) → (name ≡ Some (codes "export") → ⊥) → (name ≡ Some (codes "import") → ⊥) → (name ≡ Some (codes "store") → ⊥) → (name ≡ Some (codes "secret") → ⊥) → (name ≡ Some (codes "man") → ⊥) → (name ≡ Some (codes "completions") → ⊥) → ⊥
+none_left name (IsNamed.names_script is) no_script no_serve no_connect no_check no_draw no_export no_import no_store no_secret no_man no_completions = no_script is
+none_left name (IsNamed.names_serve is) no_script no_serve no_connect no_check no_draw no_export no_import no_store no_secret no_man no_completions = no_serve is
+none_left name (IsNamed.names_connect is) no_script no_serve no_connect no_check no_draw no_export no_import no_store no_secret no_man no_completions = no_connect is
+none_left name (IsNamed.names_check is) no_script no_serve no_connect no_check no_draw no_export no_import no_store no_secret no_man no_completions = no_check is
+none_left name (IsNamed.names_draw is) no_script no_serve no_connect no_check no_draw no_export no_import no_store no_secret no_man no_completions = no_draw is
+none_left name (IsNamed.names_export is) no_script no_serve no_connect no_check no_draw no_export no_import no_store no_secret no_man no_completions = no_export is
+none_left name (IsNamed.names_import is) no_script no_serve no_connect no_check no_draw no_export no_import no_store no_secret no_man no_completions = no_import is
+none_left name (IsNamed.names_store is) no_script no_serve no_connect no_check no_draw no_export no_import no_store no_secret no_man no_completions = no_store is
+none_left name (IsNamed.names_secret is) no_script no_serve no_connect no_check no_draw no_export no_import no_store no_secret no_man no_completions = no_secret is
+none_left name (IsNamed.names_man is) no_script no_serve no_connect no_check no_draw no_export no_import no_store no_secret no_man no_completions = no_man is
+none_left name (IsNamed.names_completions is) no_script no_serve no_connect no_check no_draw no_export no_import no_store no_secret no_man no_completions = no_completions is
 
 -- the subcommand that a parse entered has the name in its rows
 pub name_of_rows : (matches : ArgMatches) → subcommand_name_of matches ≡ option_map (λ sub. sub.0) (subcommand_rows_of matches)

@@ -1,7 +1,7 @@
 -- What the words of a command line ask for.
 use Rattle.std.specs.Prelude.{◌≡◌, ◌≤◌, ◌⊎◌, ℕ, false, List, [], IfSome, Option, Some, codes, None, option_and_then, option_map, unwrap_or}
 use Rattle.clap.specs.Words.{IsAmong, Row, Text, kind_of, subcommand_of, subcommand_rows_of}
-use Rattle.command_line.specs.CommandLine.{AreTurnedDown, AskFor, AskForHelp, command_line, action_at, flag_at, format_at, given_by, number_at, refusals, shell_at, shell_named, waits_at}
+use Rattle.command_line.specs.CommandLine.{AreTurnedDown, AskFor, AskForHelp, command_line, action_at, flag_at, format_at, given_by, name_at, number_at, refusals, shell_at, shell_named, waits_at}
 use Rattle.command_line.specs.Http.{IsHttpAt, IsHttpFault}
 use Rattle.command_line.specs.declared.commands.Reading.{Reading}
 use Rattle.command_line.specs.declared.commands.Reading.TheVariants.{Given, Told}
@@ -11,7 +11,7 @@ use Rattle.command_line.specs.declared.stores.StoreWords.{StoreWords}
 use Rattle.command_line.specs.declared.transfers.ExportWords.{ExportWords}
 use Rattle.command_line.specs.declared.transfers.ImportWords.{ImportWords}
 use Rattle.command_line.specs.declared.words.Asked.{Asked}
-use Rattle.command_line.specs.declared.words.Asked.TheVariants.{Check, Completions, Connect, Draw, Export, Help, Import, Man, Mistake, Script, Serve, Store}
+use Rattle.command_line.specs.declared.words.Asked.TheVariants.{Check, Completions, Connect, Draw, Export, Help, Import, Man, Mistake, Script, Secret, Serve, Store}
 use Rattle.command_line.specs.declared.words.ScriptWords.{ScriptWords}
 use Rattle.command_line.specs.declared.words.ServeWords.{ServeWords}
 
@@ -120,6 +120,12 @@ IsAskedStore given (Store words) = HasStore given words
 IsAskedStore given (Mistake text) = action_at given (codes "ACTION") ≡ None
 IsAskedStore given _ = ⊥
 
+-- a secret for the name that is given, or nothing, since it is none
+abbrev pub IsAskedSecret : (Text → Option Text) → Asked → Type 0
+IsAskedSecret given (Secret name) = name_at given (codes "NAME") ≡ Some name
+IsAskedSecret given (Mistake text) = name_at given (codes "NAME") ≡ None
+IsAskedSecret given _ = ⊥
+
 -- completions for the shell that is given, or nothing, since there are none for it
 abbrev pub IsAskedShell : Option Text → Asked → Type 0
 IsAskedShell given (Completions shell) = option_and_then shell_named given ≡ Some shell
@@ -128,7 +134,8 @@ IsAskedShell given _ = ⊥
 
 -- a script of these files; this server; a talk with the server at this path; a look at the
 -- configuration in this file; a drawing of the script in this file; this export; this import; this
--- look at a store; the manual page; completions for this shell; help; or nothing, since the words are wrong
+-- look at a store; a secret for this name; the manual page; completions for this shell; help; or
+-- nothing, since the words are wrong
 abbrev pub IsAsked : List (List ℕ) → Asked → Type 0
 IsAsked words (Script files) = AskFor (codes "script") words × HasFiles (given_by words) files
 IsAsked words (Serve server) = AskFor (codes "serve") words × HasServer (given_by words) server
@@ -141,6 +148,8 @@ IsAsked words (Draw script) = AskFor (codes "draw") words
 IsAsked words (Export given) = AskFor (codes "export") words × HasExport (given_by words) given
 IsAsked words (Import given) = AskFor (codes "import") words × HasImport (given_by words) given
 IsAsked words (Store given) = AskFor (codes "store") words × HasStore (given_by words) given
+IsAsked words (Secret name) =
+    AskFor (codes "secret") words × (name_at (given_by words) (codes "NAME") ≡ Some name)
 IsAsked words Man = AskFor (codes "man") words
 IsAsked words (Completions shell) =
     AskFor (codes "completions") words × (shell_at (given_by words) (codes "SHELL") ≡ Some shell)

@@ -1,6 +1,7 @@
--- The command line, as clap reads it: `landmap script` and `landmap serve` with their options, `landmap connect --socket PATH`, `landmap check --config FILE`, `landmap draw
--- SCRIPT`, `landmap export` and `landmap import` with their options, `landmap store ACTION DIR
--- [--features]`, `landmap man`, and `landmap completions SHELL`.
+-- The command line, as clap reads it: `landmap script` and `landmap serve` with their options,
+-- `landmap connect --socket PATH`, `landmap check --config FILE`, `landmap draw SCRIPT`, `landmap
+-- export` and `landmap import` with their options, `landmap store ACTION DIR [--features]`, `landmap
+-- secret NAME`, `landmap man`, and `landmap completions SHELL`.
 use Rattle.std.specs.Prelude.{◌≡◌, ◌≢◌, ◌⊎◌, ℕ, Bool, true, false, List, [], ◌∷◌, Option, None, Some, codes, if◌then◌else◌, fold, option_map, option_and_then, pos}
 use Rattle.std.specs.Option.{option_map_or}
 use Rattle.std.specs.Str.{bytes_eq}
@@ -14,6 +15,7 @@ use Rattle.clap.specs.declared.builder.command.Command.TheViews.{out-Command}
 use Rattle.clap.specs.declared.error.kind.ErrorKind.{ErrorKind}
 use Rattle.clap.specs.declared.error.kind.ErrorKind.TheVariants.{DisplayHelp}
 use Rattle.clap.specs.declared.builder.value_parser.ValueParser.TheVariants.{Signed}
+use Rattle.features.specs.Names.{name_of}
 use Rattle.command_line.specs.Http.{IsHttpFault}
 use Rattle.command_line.specs.declared.formats.Format.{Format}
 use Rattle.command_line.specs.declared.formats.Format.TheVariants.{Csv, GeoJson, GeoJsonSeq}
@@ -111,6 +113,10 @@ store_line = subcommand_line (codes "store") (
     needed (new_rule (codes "ACTION")) ∷ needed (new_rule (codes "DIR"))
     ∷ flag_rule (codes "features") ∷ [])
 
+-- `secret NAME`
+abbrev pub secret_line : App
+secret_line = subcommand_line (codes "secret") (needed (new_rule (codes "NAME")) ∷ [])
+
 -- `man`
 abbrev pub man_line : App
 man_line = subcommand_line (codes "man") []
@@ -127,7 +133,7 @@ bare_line = on_top (λ s. record s { subcommand_required = true; arg_required_el
 -- the subcommands, in the order of help
 abbrev pub subcommands : List App
 subcommands = script_line ∷ serve_line ∷ connect_line ∷ check_line ∷ draw_line
-    ∷ export_line ∷ import_line ∷ store_line ∷ man_line ∷ completions_line ∷ []
+    ∷ export_line ∷ import_line ∷ store_line ∷ secret_line ∷ man_line ∷ completions_line ∷ []
 
 -- the command line with its subcommands
 abbrev pub command_line : App
@@ -215,6 +221,14 @@ action_named name =
 abbrev pub action_at : (Text → Option Text) → Text → Option StoreAction
 action_at given id = option_and_then action_named (given id)
 
+-- the name (of a subject) that is given for an argument
+abbrev pub name_at : (Text → Option Text) → Text → Option (List ℕ)
+name_at given id = option_and_then name_of (given id)
+
+-- the words ask for a secret of what is no name
+abbrev pub NameNoName : List Text → Type 0
+NameNoName words = AskFor (codes "secret") words × (name_at (given_by words) (codes "NAME") ≡ None)
+
 -- the words ask for a server whose replies wait for what there is not
 abbrev pub NameNoWait : List Text → Type 0
 NameNoWait words = AskFor (codes "serve") words
@@ -248,4 +262,5 @@ NameNoServer words = AskFor (codes "import") words × (given_by words (codes "so
 -- the words are wrong
 abbrev pub AreTurnedDown : List Text → Type 0
 AreTurnedDown words = AreRejected words ⊎ (NameNoShell words ⊎ (NameNoFormat words
-    ⊎ (NameNoServer words ⊎ (NameNoWait words ⊎ (NameNoHttp words ⊎ NameNoAction words)))))
+    ⊎ (NameNoServer words ⊎ (NameNoWait words ⊎ (NameNoHttp words ⊎ (NameNoAction words
+    ⊎ NameNoName words))))))

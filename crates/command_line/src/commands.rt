@@ -4,7 +4,7 @@ ghost use Rattle.std.specs.Prelude.{◌≡◌, codes, map, string_bytes, IfOk};
 ghost use Rattle.clap.specs.Words.{app_of, new_rule};
 ghost use Rattle.command_line.specs.Asking.{IsReading};
 ghost use Rattle.command_line.specs.declared.options.TheConstants.{FIRST_ID_LIMIT, HTTP_WORKER_LIMIT};
-ghost use Rattle.command_line.specs.CommandLine.{IsArgument, IsCommand, bare_line, check_line, command_line, completions_line, connect_line, draw_line, export_line, features_rule, flag_rule, import_line, man_line, needed, option_rule, script_line, serve_line, store_line, up_to};
+ghost use Rattle.command_line.specs.CommandLine.{IsArgument, IsCommand, bare_line, check_line, command_line, completions_line, connect_line, draw_line, export_line, features_rule, flag_rule, import_line, man_line, needed, option_rule, script_line, secret_line, serve_line, store_line, up_to};
 
 use crate::help_texts::{
     ABOUT, AS_HELP, CHECK_ABOUT, CHECK_CONFIG_HELP, CHECK_EXAMPLES, CHECK_LONG_ABOUT,
@@ -15,10 +15,11 @@ use crate::help_texts::{
     HTTP_HELP, HTTP_SOCKET_HELP, HTTP_WORKERS_HELP, IDLE_HELP, IMPORT_ABOUT, IMPORT_CLASS_HELP,
     IMPORT_EXAMPLES, IMPORT_FILE_HELP, IMPORT_LONG_ABOUT, IMPORT_SCRIPT_HELP, LONG_ABOUT,
     MAN_ABOUT, MAN_EXAMPLES, MAN_LONG_ABOUT, SCRIPT_ABOUT, SCRIPT_EXAMPLES, SCRIPT_FILE_HELP,
-    SCRIPT_LONG_ABOUT, SERVE_ABOUT, SERVE_EXAMPLES, SERVE_LONG_ABOUT, SHELL_HELP, SOCKET_HELP,
-    SPLIT_HELP, STORE_ABOUT, STORE_ACTION_HELP, STORE_EXAMPLES, STORE_FEATURES_HELP,
-    STORE_FOLDER_HELP, STORE_HELP, STORE_LONG_ABOUT, TAKEOVER_HELP, UNTIL_STDIN_ENDS_HELP,
-    WAIT_HELP, WHOLE_HELP, WINDOW_HELP, WORKERS_HELP,
+    SCRIPT_LONG_ABOUT, SECRET_ABOUT, SECRET_EXAMPLES, SECRET_LONG_ABOUT, SECRET_NAME_HELP,
+    SERVE_ABOUT, SERVE_EXAMPLES, SERVE_LONG_ABOUT, SHELL_HELP, SOCKET_HELP, SPLIT_HELP,
+    STORE_ABOUT, STORE_ACTION_HELP, STORE_EXAMPLES, STORE_FEATURES_HELP, STORE_FOLDER_HELP,
+    STORE_HELP, STORE_LONG_ABOUT, TAKEOVER_HELP, UNTIL_STDIN_ENDS_HELP, WAIT_HELP, WHOLE_HELP,
+    WINDOW_HELP, WORKERS_HELP,
 };
 use crate::options::{
     CONNECTION_LIMIT, FEATURE_LIMIT, FIRST_ID_LIMIT, HTTP_WORKER_LIMIT, IDLE_LIMIT, WORKER_LIMIT,
@@ -256,6 +257,20 @@ fn store_command<'a>(alloc: Global) -> Result<Command<'a>, AllocError>
         .arg(flag_argument(alloc, "features", STORE_FEATURES_HELP))
 }
 
+/// The subcommand that makes a secret.
+fn secret_command<'a>(alloc: Global) -> Result<Command<'a>, AllocError>
+    ensures { IfOk result (IsCommand secret_line) }
+{
+    let name = Arg::new(alloc, "NAME")
+        .help(SECRET_NAME_HELP)
+        .required(true);
+    Command::new(alloc, "secret")
+        .about(SECRET_ABOUT)
+        .long_about(SECRET_LONG_ABOUT)
+        .after_long_help(SECRET_EXAMPLES)
+        .arg(name)
+}
+
 /// The subcommand that prints the manual page.
 fn man_command<'a>(alloc: Global) -> Command<'a>
     ensures { IsCommand man_line result }
@@ -303,6 +318,7 @@ fn command<'a>(alloc: Global) -> Result<Command<'a>, AllocError>
         .subcommand(export_command(alloc)?)?
         .subcommand(import_command(alloc)?)?
         .subcommand(store_command(alloc)?)?
+        .subcommand(secret_command(alloc)?)?
         .subcommand(man_command(alloc))?
         .subcommand(completions_command(alloc)?)
 }

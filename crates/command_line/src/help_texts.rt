@@ -18,8 +18,9 @@ ends; `landmap serve --help` has the options of a server, and its codes;
 `landmap connect --help` tells how to talk to a server. `landmap check` looks at
 a configuration alone; `landmap draw` makes a picture of a script; `landmap
 export` and `landmap import` bring features out of a server into a file, and
-back; `landmap man` and `landmap completions` print the manual page, and what a
-shell needs to complete command lines.
+back; `landmap secret` makes a secret by which a subject asks by HTTP; `landmap
+man` and `landmap completions` print the manual page, and what a shell needs to
+complete command lines.
 
 Exit status:
   0  what was asked is done
@@ -499,6 +500,36 @@ Exit status:
      `landmap: Q2 FILE: ..` (cannot be read), `landmap: Q3 FILE: ..` (damaged),
      `landmap: cannot write`, or `landmap: V4` (no memory)
   2  the command line is wrong";
+
+pub(crate) const SECRET_ABOUT: &str = "Makes a secret by which a subject asks by HTTP";
+
+pub(crate) const SECRET_LONG_ABOUT: &str = r#"Makes a secret by which a subject asks by HTTP.
+
+It is drawn from the randomness of the machine, and two lines are printed: the
+secret, 43 letters, digits, `-` and `_`; and the entry for the configuration,
+which goes into the list `"keys"`. The entry has only the digest (SHA-256) of
+the secret, which nobody can turn back. The secret is shown this once and stored
+nowhere: hand the first line over, and keep it out of files and histories.
+
+NAME is one of the subjects of the configuration. A secret is replaced by adding
+a second key of the subject, and taken back by removing its key; the server
+reads its configuration when it starts.
+
+docs/OPERATING.md has more, "Secrets"."#;
+
+pub(crate) const SECRET_NAME_HELP: &str = "The name of the subject";
+
+pub(crate) const SECRET_EXAMPLES: &str = r#"Examples:
+  `landmap secret ines` writes, with other letters and digits,
+
+    mWFgNr6gYm5Z1qkvY5Wq0n3wA7ZrV6cR8tXb2LdE_hk
+    {"subject": "ines", "sha256": "8b1d..."}
+
+Exit status:
+  0  both lines are written
+  1  one line on standard error says why not: `landmap: no randomness`,
+     `landmap: cannot write`, or `landmap: V4` where there was no memory
+  2  the command line is wrong, or NAME is no name: 1 to 32 of a-z, 0-9 and -"#;
 
 pub(crate) const MAN_ABOUT: &str = "Prints the manual page";
 

@@ -8,6 +8,7 @@ mod help_texts;
 mod http;
 mod laws;
 mod options;
+mod secrets;
 mod shells;
 mod stores;
 mod tables;

@@ -13,14 +13,15 @@ use crate::help_texts::{
     HTTP_HELP, HTTP_SOCKET_HELP, HTTP_WORKERS_HELP, IDLE_HELP, IMPORT_ABOUT, IMPORT_CLASS_HELP,
     IMPORT_EXAMPLES, IMPORT_FILE_HELP, IMPORT_LONG_ABOUT, IMPORT_SCRIPT_HELP, LONG_ABOUT,
     MAN_ABOUT, MAN_EXAMPLES, MAN_LONG_ABOUT, SCRIPT_ABOUT, SCRIPT_EXAMPLES, SCRIPT_FILE_HELP,
-    SCRIPT_LONG_ABOUT, SERVE_ABOUT, SERVE_EXAMPLES, SERVE_LONG_ABOUT, SHELL_HELP, SOCKET_HELP,
-    SPLIT_HELP, STORE_ABOUT, STORE_ACTION_HELP, STORE_EXAMPLES, STORE_FEATURES_HELP,
-    STORE_FOLDER_HELP, STORE_HELP, STORE_LONG_ABOUT, TAKEOVER_HELP, UNTIL_STDIN_ENDS_HELP,
-    WAIT_HELP, WHOLE_HELP, WINDOW_HELP, WORKERS_HELP,
+    SCRIPT_LONG_ABOUT, SECRET_ABOUT, SECRET_EXAMPLES, SECRET_LONG_ABOUT, SECRET_NAME_HELP,
+    SERVE_ABOUT, SERVE_EXAMPLES, SERVE_LONG_ABOUT, SHELL_HELP, SOCKET_HELP, SPLIT_HELP,
+    STORE_ABOUT, STORE_ACTION_HELP, STORE_EXAMPLES, STORE_FEATURES_HELP, STORE_FOLDER_HELP,
+    STORE_HELP, STORE_LONG_ABOUT, TAKEOVER_HELP, UNTIL_STDIN_ENDS_HELP, WAIT_HELP, WHOLE_HELP,
+    WINDOW_HELP, WORKERS_HELP,
 };
 
 /// How many commands there are.
-pub const COMMAND_COUNT: usize = 10;
+pub const COMMAND_COUNT: usize = 11;
 
 /// An argument of a command.
 #[derive(Clone, Copy, Debug)]
@@ -300,6 +301,13 @@ const STORE_ARGUMENTS: [ArgumentText; 3] = [
     },
 ];
 
+const SECRET_ARGUMENTS: [ArgumentText; 1] = [ArgumentText {
+    dashes: "",
+    name: "NAME",
+    value: "",
+    help: SECRET_NAME_HELP,
+}];
+
 const COMPLETIONS_ARGUMENTS: [ArgumentText; 1] = [ArgumentText {
     dashes: "",
     name: "SHELL",
@@ -371,6 +379,14 @@ const STORE: CommandText = CommandText {
     examples: STORE_EXAMPLES,
 };
 
+const SECRET: CommandText = CommandText {
+    name: "secret",
+    about: SECRET_ABOUT,
+    long_about: SECRET_LONG_ABOUT,
+    arguments: &SECRET_ARGUMENTS,
+    examples: SECRET_EXAMPLES,
+};
+
 const MAN: CommandText = CommandText {
     name: "man",
     about: MAN_ABOUT,
@@ -405,6 +421,7 @@ pub fn help_table() -> HelpTable
             EXPORT,
             IMPORT,
             STORE,
+            SECRET,
             MAN,
             COMPLETIONS,
         ],

@@ -8,11 +8,13 @@ ghost use Rattle.command_line.specs.Asking.{HasFiles, HasOptions, IsAsked, IsAsk
 use crate::commands::{NoMemoryForWords, Reading, clap_reading};
 use crate::http::{HttpWord, asked_http};
 use crate::options::{DEFAULT_WORKERS, ServerOptions};
+use crate::secrets::asked_secret;
 use crate::shells::{Shell, shell_named};
 use crate::stores::{StoreWords, Waits, asked_store, waits_of};
 use crate::transfers::{ExportWords, ImportWords, asked_export, asked_import};
 use clap::error::ErrorKind;
 use clap::{ArgMatches, Error};
+use features::Name;
 use std::alloc::Global;
 use std::fmt;
 
@@ -31,6 +33,8 @@ pub enum Shown<'a> {
     NoWait(&'a str),
     /// Nothing of this name is done with a store.
     NoAction(&'a str),
+    /// This is no name.
+    NoName(&'a str),
     /// `--http` gives no address.
     NoAddress(&'a str),
     /// `--http` gives an address that is none of the machine itself.
@@ -63,6 +67,10 @@ impl fmt::Display for Shown<'_> {
             Shown::NoAction(name) => write!(
                 f,
                 "error: invalid value '{name}' for '<ACTION>'\n  [possible values: check, list, export]\n\nFor more information, try '--help'.\n"
+            ),
+            Shown::NoName(text) => write!(
+                f,
+                "error: invalid value '{text}' for '<NAME>'\n  a name is wanted: 1 to 32 of a-z, 0-9 and -\n\nFor more information, try '--help'.\n"
             ),
             Shown::NoAddress(text) => write!(
                 f,
@@ -101,6 +109,8 @@ pub enum Asked<'a> {
     Import(ImportWords<'a>),
     /// Look at a store.
     Store(StoreWords<'a>),
+    /// Make a secret for this subject.
+    Secret(Name),
     /// Print the manual page.
     Man,
     /// Print completions for a shell.
@@ -303,6 +313,9 @@ pub fn read_words<'a>(alloc: Global, words: &'a [String]) -> Result<Asked<'a>, N
     }
     if let Some(given) = matches.subcommand_matches("store") {
         return Ok(asked_store(given));
+    }
+    if let Some(given) = matches.subcommand_matches("secret") {
+        return Ok(asked_secret(given));
     }
     if let Some(_given) = matches.subcommand_matches("man") {
         return Ok(Asked::Man);

@@ -76,7 +76,7 @@ any_taken p zero vs = refl
 any_taken p (suc n) [] = refl
 any_taken p (suc n) (v ∷ vs) = ap (λ b. p (view v) || b) (any_taken p n vs)
 
-listed_length : (vs : List Value) → length (listed (items_view vs)) ≡ length vs
+pub listed_length : (vs : List Value) → length (listed (items_view vs)) ≡ length vs
 listed_length [] = refl
 listed_length (v ∷ vs) = ap suc (listed_length vs)
 

@@ -1,5 +1,5 @@
 -- What is told of a configuration.
-use Rattle.std.specs.Prelude.{◌≡◌, ◌≤◌, ◌-ℤ◌, ◌&&◌, pos, ℕ, Bool, List, [], ◌++◌, codes, length, nat_eq, if◌then◌else◌, is_none, Option, None, Some, IfSome, option_map, Result, Ok, Err}
+use Rattle.std.specs.Prelude.{◌≡◌, ◌≤◌, ◌-ℤ◌, ◌&&◌, not, pos, ℕ, Bool, List, [], ◌++◌, codes, length, nat_eq, if◌then◌else◌, is_none, Option, None, Some, IfSome, option_map, Result, Ok, Err}
 use Rattle.std.specs.Fmt.{decimal}
 use Rattle.serde_json.specs.Data.{Data}
 use Rattle.serde_json.specs.Read.{read}
@@ -114,10 +114,17 @@ grid_part (Some grid) = grid_text grid
 
 -- nothing is said of HTTP
 abbrev pub is_silent : WebData → Bool
-is_silent web = is_none web.anonymous && is_none web.public && nat_eq (length web.collections) 0
+is_silent web =
+    is_none web.anonymous && is_none web.public && nat_eq (length web.collections) 0
+    && nat_eq (length web.keys) 0 && not web.trusted_field
 
 abbrev pub collections_word : ℕ → List ℕ
 collections_word count = if nat_eq count 1 then codes " collection" else codes " collections"
+
+abbrev pub keys_part : ℕ → List ℕ
+keys_part count =
+    if nat_eq count 0 then [] else if nat_eq count 1 then codes ", 1 key"
+    else codes ", " ++ (decimal count ++ codes " keys")
 
 abbrev pub links_part : Option (List ℕ) → List ℕ
 links_part None = []
@@ -127,13 +134,17 @@ abbrev pub asker_part : Option (List ℕ) → List ℕ
 asker_part None = []
 asker_part (Some name) = codes ", requests without a name are " ++ (name ++ codes "'s")
 
--- what is said of HTTP: how many collections there are, what links begin with, and whose requests
--- are that do not say who asks
+abbrev pub field_part : Bool → List ℕ
+field_part trusted = if trusted then codes ", the field landmap-subject is trusted" else []
+
+-- what is said of HTTP: how many collections and keys there are, what links begin with, whose
+-- requests are that do not say who asks, and whether a field is trusted that says it
 abbrev pub web_text : WebData → List ℕ
 web_text web =
     codes "http: " ++ (decimal (length web.collections)
-    ++ (collections_word (length web.collections)
-    ++ (links_part web.public ++ (asker_part web.anonymous ++ codes "\n"))))
+    ++ (collections_word (length web.collections) ++ (keys_part (length web.keys)
+    ++ (links_part web.public ++ (asker_part web.anonymous
+    ++ (field_part web.trusted_field ++ codes "\n"))))))
 
 abbrev pub web_part : WebData → List ℕ
 web_part web = if is_silent web then [] else web_text web

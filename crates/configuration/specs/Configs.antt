@@ -1,11 +1,12 @@
 -- Configurations: the configuration, or the first fault, that the JSON value of a text is read as.
-use Rattle.std.specs.Prelude.{ℕ, ℤ, ◌&&◌, Bool, true, false, List, [], ◌∷◌, codes, if◌then◌else◌, Option, Some, None, is_some, nat_le, option_and_then, option_map, string_bytes, Result, Ok, Err}
+use Rattle.std.specs.Prelude.{ℕ, ℤ, ◌&&◌, not, Bool, true, false, List, [], ◌∷◌, codes, length, if◌then◌else◌, Option, Some, None, is_some, nat_eq, nat_le, option_and_then, option_map, string_bytes, Result, Ok, Err}
 use Rattle.std.specs.List.{list_any}
 use Rattle.std.specs.Option.{ok_or}
 use Rattle.std.specs.Str.{bytes_eq, is_utf8}
 use Rattle.serde_json.specs.Data.{Data, Items, no_items, item, Members, no_members, member}
 use Rattle.serde_json.specs.Find.{get, as_bool, as_number, as_str, as_array, as_object, as_u64, at}
 use Rattle.serde_json.specs.Read.{read}
+use Rattle.credentials.specs.declared.keys.Key.{Key}
 use Rattle.features.specs.Names.{name_of}
 use Rattle.features.specs.Subjects.{subjects_of}
 use Rattle.features.specs.declared.actors.Subject.{Subject}
@@ -20,7 +21,7 @@ use Rattle.grid.specs.declared.grids.TheConstants.{MOST_DECIMALS}
 use Rattle.policy_documents.specs.Documents.{DocumentData}
 use Rattle.policy_text.specs.Reading.{document_in}
 use Rattle.policy_text.specs.declared.faults.TextFault.{TextFault}
-use Rattle.configuration.specs.Web.{WebData, are_collections, name_at, public_at, subject_at}
+use Rattle.configuration.specs.Web.{WebData, are_collections, are_keys, digest_at, name_at, public_at, subject_at}
 use Rattle.configuration.specs.declared.configs.Config.{Config}
 use Rattle.configuration.specs.declared.config_faults.ConfigFault.{ConfigFault}
 use Rattle.configuration.specs.declared.config_faults.ConfigFault.TheVariants as faults
@@ -52,6 +53,8 @@ web_data w = record {
   anonymous = w.anonymous;
   public = option_map (λ text. string_bytes text) w.public;
   collections = w.collections.items;
+  keys = w.keys.items;
+  trusted_field = w.trusted_field;
 }
 
 -- the plain data of a `Config`, without its place in memory
@@ -77,6 +80,8 @@ key_text member_names.Grid = codes "grid"
 key_text member_names.Anonymous = codes "anonymous"
 key_text member_names.Public = codes "public"
 key_text member_names.Collections = codes "collections"
+key_text member_names.Keys = codes "keys"
+key_text member_names.TrustedField = codes "trusted-field"
 key_text member_names.Origin = codes "origin"
 key_text member_names.Decimals = codes "decimals"
 key_text member_names.Between = codes "between"
@@ -84,6 +89,8 @@ key_text member_names.Name = codes "name"
 key_text member_names.Office = codes "office"
 key_text member_names.Role = codes "role"
 key_text member_names.Steward = codes "steward"
+key_text member_names.Subject = codes "subject"
+key_text member_names.Sha256 = codes "sha256"
 
 -- the value under a key
 abbrev pub value_of : MemberName → Data → Option Data
@@ -153,7 +160,8 @@ policies_in d = of_policies (document_in d)
 
 abbrev pub config_keys : List MemberName
 config_keys = member_names.Subjects ∷ member_names.Policies ∷ member_names.Grid
-    ∷ member_names.Anonymous ∷ member_names.Public ∷ member_names.Collections ∷ []
+    ∷ member_names.Anonymous ∷ member_names.Public ∷ member_names.Collections ∷ member_names.Keys
+    ∷ member_names.TrustedField ∷ []
 
 abbrev pub grid_keys : List MemberName
 grid_keys = member_names.Origin ∷ member_names.Decimals ∷ member_names.Between ∷ []
@@ -238,13 +246,53 @@ abbrev pub collections_member : Option Data → Result (List (List ℕ)) ConfigF
 collections_member None = Ok []
 collections_member (Some d) = ok_or (as_array d) faults.Form >>= collections_in
 
+abbrev pub key_keys : List MemberName
+key_keys = member_names.Subject ∷ member_names.Sha256 ∷ []
+
+-- the digest under the key
+abbrev pub digest_in : Data → Result (List ℕ) ConfigFault
+digest_in d = ok_or (option_and_then digest_at (value_of member_names.Sha256 d)) faults.Form
+
+-- the key that a value spells: an object of a subject's name and of a digest
+unfoldable pub key_in : Data → Result Key ConfigFault
+key_in d =
+    object_in key_keys d >>= λ _. name_in member_names.Subject d >>= λ subject. digest_in d >>=
+    λ digest. Ok (record { subject = subject; digest = digest })
+
+-- the keys of an array, in order
+unfoldable pub keys_in : Items → Result (List Key) ConfigFault
+keys_in no_items = Ok []
+keys_in (item d rest) = key_in d >>= λ first. keys_in rest >>= λ others. Ok (first ∷ others)
+
+-- the keys of an array, which are for these subjects
+abbrev pub keys_for : List Subject → Items → Result (List Key) ConfigFault
+keys_for subjects listed = keys_in listed >>= λ keys. if are_keys subjects keys then Ok keys
+    else Err faults.Form
+
+-- the keys under the key; none, if nothing is there
+abbrev pub keys_member : List Subject → Option Data → Result (List Key) ConfigFault
+keys_member subjects None = Ok []
+keys_member subjects (Some d) = ok_or (as_array d) faults.Form >>= keys_for subjects
+
+-- whether a field is trusted; not, if nothing is there. Beside keys it is not
+abbrev pub trusted_member : List Key → Option Data → Result Bool ConfigFault
+trusted_member keys under = flag_in under >>= λ trusted. if trusted && not (nat_eq (length keys) 0)
+    then Err faults.Form else Ok trusted
+
 -- what a configuration with these subjects says of HTTP
 unfoldable pub web_in : List Subject → Data → Result WebData ConfigFault
 web_in subjects d =
     anonymous_member subjects (value_of member_names.Anonymous d) >>= λ anonymous. public_member
     (value_of member_names.Public d) >>= λ public.
     collections_member (value_of member_names.Collections d) >>= λ collections.
-    Ok (record { anonymous = anonymous; public = public; collections = collections })
+    keys_member subjects (value_of member_names.Keys d) >>= λ keys.
+    trusted_member keys (value_of member_names.TrustedField d) >>= λ trusted_field. Ok (record {
+      anonymous = anonymous;
+      public = public;
+      collections = collections;
+      keys = keys;
+      trusted_field = trusted_field;
+    })
 
 -- the configuration of an array of subjects, of policies, and of what else its value has: a grid,
 -- and what is said of HTTP. The faults in order: of a subject, of the list of subjects, of the

@@ -3,10 +3,11 @@ use Rattle.std.specs.Prelude.{◌≡◌, ◌-◌, ◌&&◌, ◌||◌, ℕ, Bool,
 use Rattle.std.specs.Fmt.{decimal}
 use Rattle.std.specs.List.{flat_map, list_any}
 use Rattle.std.specs.Option.{option_map_or}
-use Rattle.std.specs.Result.{is_err}
+use Rattle.std.specs.Result.{is_err, result_ok}
 use Rattle.std.specs.Str.{bytes_eq}
 use Rattle.serde_json.specs.Data.{Data, Items, no_items, item}
 use Rattle.serde_json.specs.Find.{as_array, as_bool, as_str, at, get}
+use Rattle.credentials.specs.declared.keys.Key.{Key}
 use Rattle.features.specs.Names.{name_of}
 use Rattle.features.specs.declared.actors.SubjectsFault.{SubjectsFault}
 use Rattle.features.specs.declared.actors.SubjectsFault.TheVariants as lists
@@ -14,8 +15,8 @@ use Rattle.policy_text.specs.Pointers.{path_text}
 use Rattle.policy_text.specs.declared.faults.TextFault.{TextFault}
 use Rattle.policy_text.specs.declared.faults.TextFault.TheVariants as texts
 use Rattle.wkt.specs.Reading.{shape_of}
-use Rattle.configuration.specs.Configs.{config_keys, grid_in, object_in, subject_keys, value_of}
-use Rattle.configuration.specs.Web.{public_at}
+use Rattle.configuration.specs.Configs.{config_keys, grid_in, key_in, key_keys, object_in, subject_keys, value_of}
+use Rattle.configuration.specs.Web.{digest_at, is_same_key, public_at}
 use Rattle.configuration.specs.declared.config_faults.ConfigFault.{ConfigFault}
 use Rattle.configuration.specs.declared.config_faults.ConfigFault.TheVariants.{NotJson, Form, Subjects, Policies, Memory}
 use Rattle.configuration.specs.declared.fields.MemberName.{MemberName}
@@ -23,6 +24,7 @@ use Rattle.configuration.specs.declared.fields.MemberName.TheVariants as member_
 use Rattle.configuration.specs.declared.places.TheConstants.{TOO_DEEP}
 use Rattle.configuration.specs.declared.places.PathPart.{PathPart}
 use Rattle.configuration.specs.declared.places.PathPart.TheVariants.{Item, Member}
+use Rattle.configuration.specs.declared.keys.TheConstants.{KEY_LIMIT}
 use Rattle.configuration.specs.declared.web.TheConstants.{COLLECTION_LIMIT}
 
 -- ---- places
@@ -102,10 +104,36 @@ is_no_collection config index d =
     (λ text. list_any (is_text text) (take index (items_under member_names.Collections config)))
     (as_str d) false
 
+-- the value is no list of keys, or has too many
+abbrev pub is_no_key_list : Data → Bool
+is_no_key_list d = option_map_or (λ items. nat_lt KEY_LIMIT (length (listed items))) (as_array d)
+    true
+
+-- the value is this key
+abbrev pub is_key : Key → Data → Bool
+is_key key d = option_map_or (is_same_key key) (result_ok (key_in d)) false
+
+-- the item of this index stands before, too, as the same key
+abbrev pub is_key_again : Data → ℕ → Data → Bool
+is_key_again config index d = option_map_or
+    (λ key. list_any (is_key key) (take index (items_under member_names.Keys config)))
+    (result_ok (key_in d)) false
+
+-- the item of this index may not be a key: it is no object of a key's members, or it stands before,
+-- too
+abbrev pub is_no_key : Data → ℕ → Data → Bool
+is_no_key config index d = is_err (object_in key_keys d) || is_key_again config index d
+
+-- the value says neither that a field is trusted nor that none is, or that one is beside keys
+abbrev pub is_no_trust : Data → Data → Bool
+is_no_trust config d = option_map_or
+    (λ trusted. trusted && not (nat_eq (length (items_under member_names.Keys config)) 0)) (as_bool d)
+    true
+
 -- ---- the value at fault
 
--- the value under a key of a configuration, or of one of its subjects, has not the form that is
--- wanted there
+-- the value under a key of a configuration, or of one of its subjects or keys, has not the form that
+-- is wanted there
 abbrev pub is_wrong_member : Data → List ℕ → Data → Bool
 is_wrong_member config key d =
     if bytes_eq key (codes "subjects") then is_none (as_array d)
@@ -113,13 +141,18 @@ is_wrong_member config key d =
     else if bytes_eq key (codes "anonymous") then not (is_subject_in config d)
     else if bytes_eq key (codes "public") then is_none (public_at d)
     else if bytes_eq key (codes "collections") then is_no_list d
+    else if bytes_eq key (codes "keys") then is_no_key_list d
+    else if bytes_eq key (codes "trusted-field") then is_no_trust config d
     else if bytes_eq key (codes "steward") then is_none (as_bool d)
+    else if bytes_eq key (codes "subject") then not (is_subject_in config d)
+    else if bytes_eq key (codes "sha256") then is_none (digest_at d)
     else not (is_name_text d)
 
--- an item of the subjects or of the collections has not the form that is wanted there
+-- an item of the subjects, of the collections or of the keys has not the form that is wanted there
 abbrev pub is_wrong_item : Data → List PathPart → ℕ → Data → Bool
 is_wrong_item config place index d =
     if begins_in (codes "collections") place then is_no_collection config index d
+    else if begins_in (codes "keys") place then is_no_key config index d
     else is_err (object_in subject_keys d)
 
 -- the value has not the form that is wanted at a place with this last part; `None` is the whole
@@ -133,7 +166,8 @@ is_wrong_there config place (Some (Member key)) d = is_wrong_member config key.n
 abbrev pub is_needed : List PathPart → Bool
 is_needed place =
     ends_in (codes "subjects") place || ends_in (codes "policies") place || ends_in (codes "name")
-    place || ends_in (codes "office") place || ends_in (codes "role") place
+    place || ends_in (codes "office") place || ends_in (codes "role") place || ends_in
+    (codes "subject") place || ends_in (codes "sha256") place
 
 abbrev pub is_wrong_form : Data → List PathPart → Option Data → Bool
 is_wrong_form config place None = is_needed place

@@ -19,6 +19,8 @@ pub(crate) enum MemberName {
     Anonymous,
     Public,
     Collections,
+    Keys,
+    TrustedField,
     Origin,
     Decimals,
     Between,
@@ -26,6 +28,8 @@ pub(crate) enum MemberName {
     Office,
     Role,
     Steward,
+    Subject,
+    Sha256,
 }
 
 impl MemberName {
@@ -40,6 +44,8 @@ impl MemberName {
             MemberName::Anonymous => "anonymous",
             MemberName::Public => "public",
             MemberName::Collections => "collections",
+            MemberName::Keys => "keys",
+            MemberName::TrustedField => "trusted-field",
             MemberName::Origin => "origin",
             MemberName::Decimals => "decimals",
             MemberName::Between => "between",
@@ -47,6 +53,8 @@ impl MemberName {
             MemberName::Office => "office",
             MemberName::Role => "role",
             MemberName::Steward => "steward",
+            MemberName::Subject => "subject",
+            MemberName::Sha256 => "sha256",
         }
     }
 }

@@ -9,10 +9,13 @@ use crate::config_faults::ConfigFault;
 use crate::configs::{CONFIG_KEYS, SUBJECT_KEYS, subject_in};
 use crate::fields::{MemberName, array_in, is_object_of, name_in, value_in};
 use crate::grids::grid_in;
+use crate::keys::{KEY_KEYS, digest_at};
 use crate::places::{PathPart, Place, value_at};
 use crate::searches::find_in_policies;
-use crate::web::{COLLECTION_LIMIT, public_at};
-use crate::web_faults::{is_no_collection, is_subject_in};
+use crate::web::public_at;
+use crate::web_faults::{
+    is_no_collection, is_no_key, is_no_key_list, is_no_list, is_subject_in, items_under,
+};
 use crate::wrongs::is_wrong;
 use features::SubjectsFault;
 use memory::{GrowVec, NoMemory};
@@ -91,19 +94,74 @@ fn find_web<A: Allocator>(value: &Value, place: &mut Vec<PathPart, A>) -> Result
             return place.try_push(PathPart::Member("public"));
         }
     }
-    place.try_push(PathPart::Member("collections"))?;
-    let Some(items) = array_in(value, MemberName::Collections) else {
-        return Ok(());
-    };
-    if items.len() > COLLECTION_LIMIT {
+    if find_collections(value, place)? || find_keys(value, place)? {
         return Ok(());
     }
-    for (index, item) in items.iter().enumerate() {
+    place.try_push(PathPart::Member("trusted-field"))
+}
+
+/// Whether the collections are at fault. Puts the parts to what is.
+fn find_collections<A: Allocator>(
+    value: &Value,
+    place: &mut Vec<PathPart, A>,
+) -> Result<bool, NoMemory> {
+    let Some(list) = value_in(value, MemberName::Collections) else {
+        return Ok(false);
+    };
+    place.try_push(PathPart::Member("collections"))?;
+    if is_no_list(list) {
+        return Ok(true);
+    }
+    for (index, item) in items_under(value, MemberName::Collections)
+        .iter()
+        .enumerate()
+    {
         if is_no_collection(value, index, item) {
-            return place.try_push(PathPart::Item(index));
+            place.try_push(PathPart::Item(index))?;
+            return Ok(true);
         }
     }
-    Ok(())
+    let _ = place.pop();
+    Ok(false)
+}
+
+/// Whether the keys are at fault. Puts the parts to what is.
+fn find_keys<A: Allocator>(value: &Value, place: &mut Vec<PathPart, A>) -> Result<bool, NoMemory> {
+    let Some(list) = value_in(value, MemberName::Keys) else {
+        return Ok(false);
+    };
+    place.try_push(PathPart::Member("keys"))?;
+    if is_no_key_list(list) {
+        return Ok(true);
+    }
+    for (index, item) in items_under(value, MemberName::Keys).iter().enumerate() {
+        place.try_push(PathPart::Item(index))?;
+        if let Some(key) = faulty_key_member(value, item) {
+            place.try_push(PathPart::Member(key.text()))?;
+            return Ok(true);
+        }
+        if is_no_key(value, index, item) {
+            return Ok(true);
+        }
+        let _ = place.pop();
+    }
+    let _ = place.pop();
+    Ok(false)
+}
+
+/// The member of a key that is at fault, if it is not the key itself.
+fn faulty_key_member(config: &Value, key: &Value) -> Option<MemberName> {
+    if !is_object_of(key, &KEY_KEYS) {
+        return None;
+    }
+    match value_in(key, MemberName::Subject) {
+        Some(subject) if is_subject_in(config, subject) => {}
+        _ => return Some(MemberName::Subject),
+    }
+    match value_in(key, MemberName::Sha256) {
+        Some(text) if digest_at(text).is_some() => None,
+        _ => Some(MemberName::Sha256),
+    }
 }
 
 /// Whether one of these subjects has the name of this one.

@@ -11,6 +11,8 @@ ghost use Rattle.configuration.specs.declared.config_faults.ConfigFault.TheVaria
 
 use crate::config_faults::ConfigFault;
 use crate::fields::{MemberName, value_in};
+use crate::keys::{keys_member, trusted_member};
+use credentials::Key;
 use features::{Name, Subjects};
 use memory::{GrowVec, text};
 use serde_json::Value;
@@ -34,6 +36,10 @@ pub struct Web<A: Allocator> {
     pub public: Option<String<A>>,
     /// The classes that are collections.
     pub collections: Vec<Name, A>,
+    /// The keys of the subjects that may ask.
+    pub keys: Vec<Key, A>,
+    /// Whether the field `landmap-subject` of a request says who asks.
+    pub trusted_field: bool,
 }
 
 /// The name that a value spells.
@@ -229,9 +235,13 @@ pub(crate) fn web_in<A: Allocator + Copy>(
     let anonymous = anonymous_member(subjects, value_in(value, MemberName::Anonymous))?;
     let public = public_member(alloc, value_in(value, MemberName::Public))?;
     let collections = collections_member(alloc, value_in(value, MemberName::Collections))?;
+    let keys = keys_member(alloc, subjects, value_in(value, MemberName::Keys))?;
+    let trusted_field = trusted_member(keys.as_slice(), value_in(value, MemberName::TrustedField))?;
     Ok(Web {
         anonymous,
         public,
         collections,
+        keys,
+        trusted_field,
     })
 }

@@ -3,15 +3,17 @@
 ghost use Rattle.std.specs.Prelude.{◌≡◌, take};
 ghost use Rattle.std.specs.List.{list_any};
 ghost use Rattle.serde_json.specs.View.{items_view, view};
-ghost use Rattle.configuration.specs.Places.{is_named, is_no_collection, is_no_list, is_subject_in, is_text, items_under, listed};
+ghost use Rattle.configuration.specs.Places.{is_key, is_key_again, is_named, is_no_collection, is_no_key, is_no_key_list, is_no_list, is_no_trust, is_subject_in, is_text, items_under, listed};
 
-use crate::fields::{MemberName, array_in, value_in};
+use crate::fields::{MemberName, array_in, is_object_of, value_in};
+use crate::keys::{KEY_KEYS, KEY_LIMIT, is_same_key, key_in};
 use crate::texts::{is_name_text, is_text};
 use crate::web::{ALL_FEATURES, COLLECTION_LIMIT};
+use credentials::Key;
 use serde_json::Value;
 
 /// The items under a key of a configuration; none, if there is no array.
-fn items_under(config: &Value, key: MemberName) -> &[Value]
+pub(crate) fn items_under(config: &Value, key: MemberName) -> &[Value]
     ensures { listed (items_view result.now) ≡ items_under key (view config.now) }
 {
     match array_in(config, key) {
@@ -87,4 +89,70 @@ pub(crate) fn is_no_collection(config: &Value, index: usize, value: &Value) -> b
     !is_name_text(value)
         || is_text(ALL_FEATURES.as_bytes(), value)
         || stands_before(index, text.as_bytes(), items)
+}
+
+/// Whether a value is no list that may be one of keys.
+pub(crate) fn is_no_key_list(value: &Value) -> bool
+    ensures { result ≡ is_no_key_list (view value.now) }
+{
+    match value.as_array() {
+        Some(items) => items.len() > KEY_LIMIT,
+        None => true,
+    }
+}
+
+/// Whether a value is this key.
+fn is_key(key: &Key, value: &Value) -> bool
+    ensures { result ≡ is_key key.now (view value.now) }
+{
+    match key_in(value) {
+        Some(other) => is_same_key(key, &other),
+        None => false,
+    }
+}
+
+/// Whether one of these values is this key.
+fn is_key_of(key: &Key, items: &[Value]) -> bool
+    ensures { result ≡ list_any (λ item. is_key key.now (view item)) items.now }
+{
+    items.iter().any(|item| is_key(key, item))
+}
+
+/// Whether one of the items before an index is this key.
+fn is_key_before(index: usize, key: &Key, items: &[Value]) -> bool
+    ensures { result ≡ list_any (is_key key.now) (take index (listed (items_view items.now))) }
+{
+    if index < items.len() {
+        is_key_of(key, &items[..index])
+    } else {
+        is_key_of(key, items)
+    }
+}
+
+/// Whether the item of an index stands before, too, as the same key.
+fn is_key_again(config: &Value, index: usize, value: &Value) -> bool
+    ensures { result ≡ is_key_again (view config.now) index (view value.now) }
+{
+    match key_in(value) {
+        Some(key) => is_key_before(index, &key, items_under(config, MemberName::Keys)),
+        None => false,
+    }
+}
+
+/// Whether the item of an index may not be a key: it is no object of a key's members, or it stands
+/// before, too.
+pub(crate) fn is_no_key(config: &Value, index: usize, value: &Value) -> bool
+    ensures { result ≡ is_no_key (view config.now) index (view value.now) }
+{
+    !is_object_of(value, &KEY_KEYS) || is_key_again(config, index, value)
+}
+
+/// Whether a value may not stand under the key of the field that is trusted.
+pub(crate) fn is_no_trust(config: &Value, value: &Value) -> bool
+    ensures { result ≡ is_no_trust (view config.now) (view value.now) }
+{
+    match value.as_bool() {
+        Some(trusted) => trusted && !items_under(config, MemberName::Keys).is_empty(),
+        None => true,
+    }
 }

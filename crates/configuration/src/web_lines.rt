@@ -1,7 +1,7 @@
 //! How it is told what a configuration says of HTTP.
 
 ghost use Rattle.std.specs.Prelude.{◌≡◌};
-ghost use Rattle.configuration.specs.Checking.{collections_word, is_silent};
+ghost use Rattle.configuration.specs.Checking.{collections_word, field_part, is_silent};
 ghost use Rattle.configuration.specs.Configs.{web_data};
 
 use crate::web::Web;
@@ -13,7 +13,11 @@ use std::fmt;
 fn is_silent<A: Allocator>(web: &Web<A>) -> bool
     ensures { result ≡ is_silent (web_data web.now) }
 {
-    web.anonymous.is_none() && web.public.is_none() && web.collections.is_empty()
+    web.anonymous.is_none()
+        && web.public.is_none()
+        && web.collections.is_empty()
+        && web.keys.is_empty()
+        && !web.trusted_field
 }
 
 /// What so many collections are called.
@@ -24,6 +28,27 @@ fn collections_word(count: usize) -> &'static str
         " collection"
     } else {
         " collections"
+    }
+}
+
+/// How many keys there are, as it is told.
+#[derive(Clone, Copy)]
+struct KeysPart {
+    count: usize,
+}
+
+impl fmt::Display for KeysPart {
+    ghost use Rattle.std.specs.Prelude.{Some};
+    ghost use Rattle.configuration.specs.Checking.{keys_part};
+
+    ghost output = { λ part. Some (keys_part part.count) };
+
+    fn fmt<W: fmt::Write>(&self, f: &mut fmt::Formatter<W>) -> fmt::Result {
+        match self.count {
+            0 => Ok(()),
+            1 => f.write_str(", 1 key"),
+            count => write!(f, ", {count} keys"),
+        }
     }
 }
 
@@ -68,6 +93,17 @@ impl fmt::Display for AskerPart {
     }
 }
 
+/// That a field is trusted, as it is told.
+fn field_part(trusted: bool) -> &'static str
+    ensures { result.now ≡ field_part trusted }
+{
+    if trusted {
+        ", the field landmap-subject is trusted"
+    } else {
+        ""
+    }
+}
+
 /// What is said of HTTP, as it is told: one line, or nothing.
 #[derive(Drop)]
 pub(crate) struct WebLine<'a, A: Allocator> {
@@ -88,13 +124,17 @@ impl<A: Allocator> fmt::Display for WebLine<'_, A> {
         let count = self.web.collections.len();
         write!(
             f,
-            "http: {}{}{}{}\n",
+            "http: {}{}{}{}{}{}\n",
             count,
             collections_word(count),
+            KeysPart {
+                count: self.web.keys.len()
+            },
             LinksPart { web: self.web },
             AskerPart {
                 anonymous: self.web.anonymous
-            }
+            },
+            field_part(self.web.trusted_field)
         )
     }
 }

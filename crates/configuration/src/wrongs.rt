@@ -8,17 +8,20 @@ use crate::config_faults::ConfigFault;
 use crate::configs::{CONFIG_KEYS, SUBJECT_KEYS};
 use crate::fields::is_object_of;
 use crate::grids::grid_in;
+use crate::keys::digest_at;
 use crate::places::{PathPart, TOO_DEEP, begins_in, ends_in};
 use crate::texts::{is_name_text, is_text};
 use crate::web::public_at;
-use crate::web_faults::{is_no_collection, is_no_list, is_subject_in};
+use crate::web_faults::{
+    is_no_collection, is_no_key, is_no_key_list, is_no_list, is_no_trust, is_subject_in,
+};
 use features::SubjectsFault;
 use policy_text::TextFault;
 use serde_json::Value;
 use wkt::read_shape;
 
-/// Whether the value under a key of a configuration, or of one of its subjects, has not the form that
-/// is wanted there.
+/// Whether the value under a key of a configuration, or of one of its subjects or keys, has not the
+/// form that is wanted there.
 fn is_wrong_member(config: &Value, key: &str, value: &Value) -> bool
     ensures { result ≡ is_wrong_member (view config.now) key.now (view value.now) }
 {
@@ -32,19 +35,30 @@ fn is_wrong_member(config: &Value, key: &str, value: &Value) -> bool
         public_at(value).is_none()
     } else if key == "collections" {
         is_no_list(value)
+    } else if key == "keys" {
+        is_no_key_list(value)
+    } else if key == "trusted-field" {
+        is_no_trust(config, value)
     } else if key == "steward" {
         value.as_bool().is_none()
+    } else if key == "subject" {
+        !is_subject_in(config, value)
+    } else if key == "sha256" {
+        digest_at(value).is_none()
     } else {
         !is_name_text(value)
     }
 }
 
-/// Whether an item of the subjects or of the collections has not the form that is wanted there.
+/// Whether an item of the subjects, of the collections or of the keys has not the form that is wanted
+/// there.
 fn is_wrong_item(config: &Value, place: &[PathPart], index: usize, value: &Value) -> bool
     ensures { result ≡ is_wrong_item (view config.now) place.now index (view value.now) }
 {
     if begins_in("collections", place) {
         is_no_collection(config, index, value)
+    } else if begins_in("keys", place) {
+        is_no_key(config, index, value)
     } else {
         !is_object_of(value, &SUBJECT_KEYS)
     }
@@ -71,6 +85,8 @@ fn is_needed(place: &[PathPart]) -> bool
         || ends_in("name", place)
         || ends_in("office", place)
         || ends_in("role", place)
+        || ends_in("subject", place)
+        || ends_in("sha256", place)
 }
 
 /// Whether a value is missing, or not of the form that is wanted.

@@ -2,10 +2,12 @@
 //! `program`; its server, in `server`; how it talks to one, in `client`.
 #![tactic(auto)]
 
+mod new_secrets;
 mod stores;
 mod transfers;
 mod web_plans;
 
+use crate::new_secrets::make_secret;
 use crate::stores::{Alarm, StoreToOpen, look_at_store, run_stored};
 use crate::transfers::{run_export, run_import};
 use crate::web_plans::{WebFault, WebPlan};
@@ -502,6 +504,7 @@ fn main(rt: HostRuntime) -> ExitCode {
         Next::Connect(path) => connect(&rt, path, &mut errors),
         Next::Keep(wanted) => run_stored(&rt, wanted, &mut errors),
         Next::Look(words) => look_at_store(&rt, words, &mut errors),
+        Next::Secret(subject) => make_secret(&rt, subject, &mut errors),
         Next::Transfer(wanted) => transfer(&rt, wanted, &mut errors),
     }
 }

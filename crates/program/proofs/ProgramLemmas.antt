@@ -46,6 +46,7 @@ script_answers words held closed written output after files (Err fault) asked h 
 script_answers words held closed written output after files (Ok (answers.Serve server)) asked h = absurd h
 script_answers words held closed written output after files (Ok (answers.Connect path)) asked h = absurd h
 script_answers words held closed written output after files (Ok (answers.Look given)) asked h = absurd h
+script_answers words held closed written output after files (Ok (answers.Secret subject)) asked h = absurd h
 script_answers words held closed written output after files (Ok (answers.Transfer wanted)) asked h = absurd h
 script_answers words held closed written output after files (Ok (answers.Mistaken mistake)) asked h = absurd h
 
@@ -82,6 +83,7 @@ look_answers words held closed written output after name (Ok (answers.Serve serv
 look_answers words held closed written output after name (Ok (answers.Connect path)) asked given h = absurd h
 look_answers words held closed written output after name (Ok (answers.Keep kept)) asked given h = absurd h
 look_answers words held closed written output after name (Ok (answers.Look look)) asked given h = absurd h
+look_answers words held closed written output after name (Ok (answers.Secret subject)) asked given h = absurd h
 look_answers words held closed written output after name (Ok (answers.Transfer wanted)) asked given h = absurd h
 look_answers words held closed written output after name (Ok (answers.Mistaken mistake)) asked given h = absurd h
 
@@ -93,6 +95,7 @@ draw_answers words held closed written output after name (Ok (answers.Serve serv
 draw_answers words held closed written output after name (Ok (answers.Connect path)) asked given h = absurd h
 draw_answers words held closed written output after name (Ok (answers.Keep kept)) asked given h = absurd h
 draw_answers words held closed written output after name (Ok (answers.Look look)) asked given h = absurd h
+draw_answers words held closed written output after name (Ok (answers.Secret subject)) asked given h = absurd h
 draw_answers words held closed written output after name (Ok (answers.Transfer wanted)) asked given h = absurd h
 draw_answers words held closed written output after name (Ok (answers.Mistaken mistake)) asked given h = absurd h
 
@@ -104,6 +107,7 @@ page_answers words held closed written output after shell (Ok (answers.Serve ser
 page_answers words held closed written output after shell (Ok (answers.Connect path)) asked h = absurd h
 page_answers words held closed written output after shell (Ok (answers.Keep kept)) asked h = absurd h
 page_answers words held closed written output after shell (Ok (answers.Look look)) asked h = absurd h
+page_answers words held closed written output after shell (Ok (answers.Secret subject)) asked h = absurd h
 page_answers words held closed written output after shell (Ok (answers.Transfer wanted)) asked h = absurd h
 page_answers words held closed written output after shell (Ok (answers.Mistaken mistake)) asked h = absurd h
 
@@ -118,6 +122,7 @@ transfer_answers words held closed written output name given config (Ok (answers
 transfer_answers words held closed written output name given config (Ok (answers.Connect path)) named asked is h = absurd h
 transfer_answers words held closed written output name given config (Ok (answers.Keep kept)) named asked is h = absurd h
 transfer_answers words held closed written output name given config (Ok (answers.Look look)) named asked is h = absurd h
+transfer_answers words held closed written output name given config (Ok (answers.Secret subject)) named asked is h = absurd h
 transfer_answers words held closed written output name given config (Ok (answers.Mistaken mistake)) named asked is h = absurd h
 
 -- the result for the words, by cases

@@ -1,5 +1,5 @@
 -- The built-in configuration.
-use Rattle.std.specs.Prelude.{[], ◌∷◌, codes, None}
+use Rattle.std.specs.Prelude.{false, [], ◌∷◌, codes, None}
 use Rattle.policy_documents.specs.Documents.{DocumentData, policy}
 use Rattle.policy_documents.specs.declared.algorithms.Algorithm.TheVariants.{FirstApplicable}
 use Rattle.policy_documents.specs.declared.algorithms.Effect.TheVariants.{Permit}
@@ -19,5 +19,11 @@ built_in_config = record {
   subjects = built_in;
   document = open_document;
   grid = None;
-  web = record { anonymous = None; public = None; collections = [] };
+  web = record {
+    anonymous = None;
+    public = None;
+    collections = [];
+    keys = [];
+    trusted_field = false;
+  };
 }

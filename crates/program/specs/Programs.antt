@@ -2,7 +2,7 @@
 use Rattle.std.specs.Prelude.{◌≡◌, ℕ, List, Option, None, Some, IfSome, Result, Ok, Err, codes, option_map}
 use Rattle.byte_streams.specs.Written.{Took}
 use Rattle.command_line.specs.Asking.{HasExport, HasImport, HasOptions, HasStore, IsUpTo}
-use Rattle.command_line.specs.CommandLine.{AreTurnedDown, AskFor, AskForHelp, given_by, number_at, waits_at}
+use Rattle.command_line.specs.CommandLine.{AreTurnedDown, AskFor, AskForHelp, given_by, name_at, number_at, waits_at}
 use Rattle.command_line.specs.Http.{IsHttpAt}
 use Rattle.command_line.specs.declared.options.TheConstants.{HTTP_WORKER_LIMIT}
 use Rattle.configuration.specs.Configs.{ConfigData, config_data, grid_data}
@@ -119,6 +119,11 @@ pub record WantKept (words : List (List ℕ)) (held : List ℕ
 abbrev pub WantLook : List (List ℕ) → StoreWords → Type 0
 WantLook words given = AskFor (codes "store") words × HasStore (given_by words) given
 
+-- these words ask for a secret for this subject
+abbrev pub WantSecret : List (List ℕ) → List ℕ → Type 0
+WantSecret words subject =
+    AskFor (codes "secret") words × (name_at (given_by words) (codes "NAME") ≡ Some subject)
+
 -- these words ask for a talk with the server at this path
 abbrev pub WantTalk : List (List ℕ) → List ℕ → Type 0
 WantTalk words path = AskFor (codes "connect") words × (given_by words (codes "socket") ≡ Some path)
@@ -166,6 +171,7 @@ LookAnswered held closed name before after (Ok (answers.Serve server)) = ⊥
 LookAnswered held closed name before after (Ok (answers.Connect path)) = ⊥
 LookAnswered held closed name before after (Ok (answers.Keep wanted)) = ⊥
 LookAnswered held closed name before after (Ok (answers.Look given)) = ⊥
+LookAnswered held closed name before after (Ok (answers.Secret subject)) = ⊥
 LookAnswered held closed name before after (Ok (answers.Transfer wanted)) = ⊥
 LookAnswered held closed name before after (Ok (answers.Mistaken mistake)) = ⊥
 
@@ -179,6 +185,7 @@ DrawAnswered held closed name before after (Ok (answers.Serve server)) = ⊥
 DrawAnswered held closed name before after (Ok (answers.Connect path)) = ⊥
 DrawAnswered held closed name before after (Ok (answers.Keep wanted)) = ⊥
 DrawAnswered held closed name before after (Ok (answers.Look given)) = ⊥
+DrawAnswered held closed name before after (Ok (answers.Secret subject)) = ⊥
 DrawAnswered held closed name before after (Ok (answers.Transfer wanted)) = ⊥
 DrawAnswered held closed name before after (Ok (answers.Mistaken mistake)) = ⊥
 
@@ -190,6 +197,7 @@ PageAnswered shell before after (Ok (answers.Serve server)) = ⊥
 PageAnswered shell before after (Ok (answers.Connect path)) = ⊥
 PageAnswered shell before after (Ok (answers.Keep wanted)) = ⊥
 PageAnswered shell before after (Ok (answers.Look given)) = ⊥
+PageAnswered shell before after (Ok (answers.Secret subject)) = ⊥
 PageAnswered shell before after (Ok (answers.Transfer wanted)) = ⊥
 PageAnswered shell before after (Ok (answers.Mistaken mistake)) = ⊥
 
@@ -211,6 +219,7 @@ ScriptAnswered held closed files written output output_after (Err fault) =
 ScriptAnswered held closed files written output output_after (Ok (answers.Serve server)) = ⊥
 ScriptAnswered held closed files written output output_after (Ok (answers.Connect path)) = ⊥
 ScriptAnswered held closed files written output output_after (Ok (answers.Look given)) = ⊥
+ScriptAnswered held closed files written output output_after (Ok (answers.Secret subject)) = ⊥
 ScriptAnswered held closed files written output output_after (Ok (answers.Transfer wanted)) = ⊥
 ScriptAnswered held closed files written output output_after (Ok (answers.Mistaken mistake)) = ⊥
 
@@ -225,11 +234,12 @@ TransferAnswered held closed given config (Ok (answers.Serve server)) = ⊥
 TransferAnswered held closed given config (Ok (answers.Connect path)) = ⊥
 TransferAnswered held closed given config (Ok (answers.Keep kept)) = ⊥
 TransferAnswered held closed given config (Ok (answers.Look look)) = ⊥
+TransferAnswered held closed given config (Ok (answers.Secret subject)) = ⊥
 TransferAnswered held closed given config (Ok (answers.Mistaken mistake)) = ⊥
 
 -- The result of these words, before anything is written to standard error: what they ask for is
--- done; or nothing is done, because they ask for a server, a talk, a store, an export or an import, or clap
--- rejects them; or there was a fault.
+-- done; or nothing is done, because they ask for a server, a talk, a store, a secret, an export or an
+-- import, or clap rejects them; or there was a fault.
 abbrev pub IsAnswer : {O : Type 0} → List (List ℕ) → (List ℕ → Option (List ℕ)) → (List ℕ → Type 0)
     → (O → Option (List ℕ)) → O → O → Result Answer ProgramFault → Type 0
 IsAnswer words held closed written output output_after (Ok (answers.Done flushed)) =
@@ -242,6 +252,8 @@ IsAnswer words held closed written output output_after (Ok (answers.Keep wanted)
     WantKept words held wanted × (output_after ≡ output)
 IsAnswer words held closed written output output_after (Ok (answers.Look given)) =
     WantLook words given × (output_after ≡ output)
+IsAnswer words held closed written output output_after (Ok (answers.Secret subject)) =
+    WantSecret words subject × (output_after ≡ output)
 IsAnswer words held closed written output output_after (Ok (answers.Transfer wanted)) =
     WantTransfer words held wanted × (output_after ≡ output)
 IsAnswer words held closed written output output_after (Ok (answers.Mistaken mistake)) =
@@ -262,9 +274,8 @@ IsRun words held closed written output output_after told errors errors_after Tur
     AreTurnedDown words × (output_after ≡ output)
 
 -- What is left to do after a run of the program with these words: exit, since the run has ended; or
--- run the server, talk with the one, run a script over a store or look at one, or export or import,
--- as the words ask. In all cases but the
--- first nothing was written.
+-- run the server, talk with the one, run a script over a store or look at one, make a secret, or
+-- export or import, as the words ask. In all cases but the first nothing was written.
 abbrev pub IsNext : {O E : Type 0} → List (List ℕ) → (List ℕ → Option (List ℕ)) → (List ℕ → Type 0)
     → (O → Option (List ℕ)) → O → O → (E → Option (List ℕ)) → E → E → Next → Type 0
 IsNext words held closed written output output_after told errors errors_after (next.Exit ended) =
@@ -277,5 +288,7 @@ IsNext words held closed written output output_after told errors errors_after (n
     WantKept words held wanted × (output_after ≡ output) × (errors_after ≡ errors)
 IsNext words held closed written output output_after told errors errors_after (next.Look given) =
     WantLook words given × (output_after ≡ output) × (errors_after ≡ errors)
+IsNext words held closed written output output_after told errors errors_after (next.Secret subject) =
+    WantSecret words subject × (output_after ≡ output) × (errors_after ≡ errors)
 IsNext words held closed written output output_after told errors errors_after (next.Transfer wanted) =
     WantTransfer words held wanted × (output_after ≡ output) × (errors_after ≡ errors)

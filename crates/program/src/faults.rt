@@ -37,7 +37,7 @@ pub enum ProgramFault<'a> {
     Draw(DrawFault),
     /// The server ended with a fault of this code.
     Server(&'static str),
-    /// A talk with a server ended with a fault, which is shown as this text.
+    /// A talk with a server ended with a fault, or no secret could be drawn: it is shown as this text.
     Talk(&'static str),
 }
 

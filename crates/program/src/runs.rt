@@ -16,6 +16,7 @@ use byte_streams::{Flushed, NotOpened, flush, write_shown};
 use command_line::{Asked, ScriptWords, ServeWords, Shell, Shown, StoreWords, read_words};
 use configuration::{Config, FileFault, ReadFault, read_config_file};
 use feature_store::FEATURE_LIMIT;
+use features::Name;
 use grid::Grid;
 use scripts::run_script;
 use std::alloc::{Allocator, Global};
@@ -190,6 +191,8 @@ enum Answer<'a> {
     Keep(WantedScript<'a>),
     /// They ask for this look at a store.
     Look(StoreWords<'a>),
+    /// They ask for a secret for this subject.
+    Secret(Name),
     /// They ask for this export or import.
     Transfer(WantedTransfer<'a>),
     /// clap rejected them, with this text.
@@ -331,8 +334,8 @@ fn answer_page<'a, O: Write>(
 }
 
 /// Does what the words of the command line ask for. For a server, an export or an import it reads
-/// only the configuration; for a talk it returns only the path. If clap rejects the words, nothing is done and clap's text
-/// is returned.
+/// only the configuration; for a talk it returns only the path, and for a secret only the name. If
+/// clap rejects the words, nothing is done and clap's text is returned.
 /// Faults: `Words` if there is no memory for the command line; `CannotWrite` if help cannot be
 /// written; those of `run_named`, of `check_named`, of `draw_named`, and of a page that is printed;
 /// those of the configuration of a server, an export or an import.
@@ -367,6 +370,7 @@ fn run_asked<'a, F: Folder, O: Write>(
             folder,
         ),
         Ok(Asked::Store(given)) => Ok(Answer::Look(given)),
+        Ok(Asked::Secret(subject)) => Ok(Answer::Secret(subject)),
         Ok(Asked::Man) => answer_page(alloc, None, output),
         Ok(Asked::Completions(shell)) => answer_page(alloc, Some(shell), output),
         Ok(Asked::Help(help)) => match show_help(&help, output) {
@@ -379,7 +383,8 @@ fn run_asked<'a, F: Folder, O: Write>(
 }
 
 /// Runs the program with these words, the first of which is its name. Returns what is left to do:
-/// exit, run a server, talk with one, or export or import. For these, only the configuration is read.
+/// exit, run a server, talk with one, make a secret, or export or import. For these, only the
+/// configuration is read.
 /// If the run ends by a fault, one line about it is written to `errors`; if clap rejects the words,
 /// its text is written there. A failing write to `errors` cuts the text short and does not change
 /// the result's kind or exit status.
@@ -400,6 +405,7 @@ pub fn run_program<'a, F: Folder, O: Write, E: Write>(
         Ok(Answer::Connect(path)) => Next::Connect(path),
         Ok(Answer::Keep(script)) => Next::Keep(script),
         Ok(Answer::Look(given)) => Next::Look(given),
+        Ok(Answer::Secret(subject)) => Next::Secret(subject),
         Ok(Answer::Transfer(wanted)) => Next::Transfer(wanted),
         Ok(Answer::Mistaken(mistake)) => {
             let _ = write_shown(&mistake, errors);

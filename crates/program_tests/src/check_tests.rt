@@ -40,7 +40,7 @@ fn right_ones(rt: HostRuntime) -> Result<(), Fail> {
 }
 
 /// What a configuration says of HTTP, with the line that is written of it.
-const SAID_OF_HTTP: [(&str, &str); 8] = [
+const SAID_OF_HTTP: [(&str, &str); 15] = [
     (r#""collections":[]"#, ""),
     (r#""collections":["mast"]"#, "http: 1 collection\n"),
     (
@@ -67,6 +67,28 @@ const SAID_OF_HTTP: [(&str, &str); 8] = [
         r#""grid":{"origin":["0","0"],"decimals":0},"collections":["mast"]"#,
         "grid step 1\ngrid x from -10000000 to 10000000\ngrid y from -10000000 to 10000000\nhttp: 1 collection\n",
     ),
+    (r#""keys":[]"#, ""),
+    (
+        r#""keys":[{"subject":"a","sha256":"0123456789abcdef0123456789abcdef0123456789abcdef0123456789abcdef"}]"#,
+        "http: 0 collections, 1 key\n",
+    ),
+    (
+        r#""keys":[{"subject":"a","sha256":"0123456789abcdef0123456789abcdef0123456789abcdef0123456789abcdef"},{"subject":"b","sha256":"0123456789abcdef0123456789abcdef0123456789abcdef0123456789abcdef"},{"sha256":"0123456789ABCDEF0123456789abcdef0123456789abcdef0123456789abcde0","subject":"a"}],"collections":["mast"]"#,
+        "http: 1 collection, 3 keys\n",
+    ),
+    (r#""trusted-field":false"#, ""),
+    (
+        r#""trusted-field":true"#,
+        "http: 0 collections, the field landmap-subject is trusted\n",
+    ),
+    (
+        r#""trusted-field":false,"keys":[{"subject":"b","sha256":"0123456789ABCDEF0123456789abcdef0123456789abcdef0123456789abcde0"}],"anonymous":"b""#,
+        "http: 0 collections, 1 key, requests without a name are b's\n",
+    ),
+    (
+        r#""trusted-field":true,"keys":[],"public":"http://x","anonymous":"a""#,
+        "http: 0 collections, links begin with http://x, requests without a name are a's, the field landmap-subject is trusted\n",
+    ),
 ];
 
 /// A right configuration of two subjects, with this beside it.
@@ -88,7 +110,7 @@ fn said_of_http(rt: HostRuntime) -> Result<(), Fail> {
 }
 
 /// What is wrong of what is said of HTTP, with its place.
-const WRONG_OF_HTTP: [(&str, &str); 25] = [
+const WRONG_OF_HTTP: [(&str, &str); 45] = [
     (r#""anonymous":null"#, "/anonymous"),
     (r#""anonymous":"c""#, "/anonymous"),
     (r#""anonymous":"A""#, "/anonymous"),
@@ -117,6 +139,62 @@ const WRONG_OF_HTTP: [(&str, &str); 25] = [
         "/collections/2",
     ),
     (r#""collections":7,"public":7,"anonymous":7"#, "/anonymous"),
+    (r#""keys":{}"#, "/keys"),
+    (r#""keys":"a""#, "/keys"),
+    (
+        r#""keys":[{"subject":"a","sha256":"0123456789abcdef0123456789abcdef0123456789abcdef0123456789abcdef"},7]"#,
+        "/keys/1",
+    ),
+    (
+        r#""keys":[{"subject":"a","sha256":"0123456789abcdef0123456789abcdef0123456789abcdef0123456789abcdef","name":"a"}]"#,
+        "/keys/0",
+    ),
+    (
+        r#""keys":[{"sha256":"0123456789abcdef0123456789abcdef0123456789abcdef0123456789abcdef"}]"#,
+        "/keys/0/subject",
+    ),
+    (r#""keys":[{"subject":"a"}]"#, "/keys/0/sha256"),
+    (
+        r#""keys":[{"subject":"c","sha256":"0123456789abcdef0123456789abcdef0123456789abcdef0123456789abcdef"}]"#,
+        "/keys/0/subject",
+    ),
+    (
+        r#""keys":[{"subject":["a"],"sha256":"0123456789abcdef0123456789abcdef0123456789abcdef0123456789abcdef"}]"#,
+        "/keys/0/subject",
+    ),
+    (r#""keys":[{"subject":"a","sha256":1}]"#, "/keys/0/sha256"),
+    (r#""keys":[{"subject":"a","sha256":""}]"#, "/keys/0/sha256"),
+    (
+        r#""keys":[{"subject":"a","sha256":"0123456789abcdef0123456789abcdef0123456789abcdef0123456789abcde"}]"#,
+        "/keys/0/sha256",
+    ),
+    (
+        r#""keys":[{"subject":"a","sha256":"0123456789abcdef0123456789abcdef0123456789abcdef0123456789abcdef00"}]"#,
+        "/keys/0/sha256",
+    ),
+    (
+        r#""keys":[{"subject":"a","sha256":"0123456789abcdef0123456789abcdef0123456789abcdef0123456789abcdeg"}]"#,
+        "/keys/0/sha256",
+    ),
+    (
+        r#""keys":[{"subject":"a","sha256":"0123456789abcdef0123456789abcdef0123456789abcdef0123456789abcdef"},{"subject":"a","sha256":"0123456789ABCDEF0123456789abcdef0123456789abcdef0123456789abcde0"},{"subject":"a","sha256":"0123456789abcdef0123456789abcdef0123456789abcdef0123456789abcdef"}]"#,
+        "/keys/2",
+    ),
+    (
+        r#""keys":[{"subject":"a","sha256":"0123456789abcdef0123456789abcdef0123456789abcdef0123456789abcdef"},{"subject":"a","sha256":"0123456789ABCDEF0123456789ABCDEF0123456789abcdef0123456789abcdef"}]"#,
+        "/keys/1",
+    ),
+    (r#""trusted-field":1"#, "/trusted-field"),
+    (r#""trusted-field":"true""#, "/trusted-field"),
+    (
+        r#""trusted-field":true,"keys":[{"subject":"a","sha256":"0123456789abcdef0123456789abcdef0123456789abcdef0123456789abcdef"}]"#,
+        "/trusted-field",
+    ),
+    (
+        r#""trusted-field":1,"keys":1,"collections":1"#,
+        "/collections",
+    ),
+    (r#""trusted-field":1,"keys":1"#, "/keys"),
 ];
 
 #[test]
@@ -170,6 +248,32 @@ fn the_most_of_http(rt: HostRuntime) -> Result<(), Fail> {
         };
         found(&rt, &rt, text.as_str(), status, told)?;
     }
+    Ok(())
+}
+
+/// A list of this many keys of one subject, each with another digest.
+fn of_keys(alloc: Global, count: usize) -> Result<String, AllocError> {
+    let mut text = String::from_str(alloc, "\"keys\":[")?;
+    for number in 0..count {
+        let comma = if number == 0 { "" } else { "," };
+        let key = format!(in alloc; "{comma}{{\"subject\":\"a\",\"sha256\":\"{number:064x}\"}}")?;
+        text.push_str(key.as_str())?;
+    }
+    text.push_str("]")?;
+    Ok(text)
+}
+
+/// 1,024 keys are the most.
+#[test]
+fn the_most_keys(rt: HostRuntime) -> Result<(), Fail> {
+    let alloc = rt.alloc();
+    let counts =
+        "subjects 2\nstewards 0\nzones 0\nrules that permit 0\nrules that deny 0\nhttp: 0 collections, 1024 keys\n";
+    let most = with(alloc, of_keys(alloc, 1_024)?.as_str())?;
+    found(&rt, &rt, most.as_str(), 0, (counts, ""))?;
+    let more = with(alloc, of_keys(alloc, 1_025)?.as_str())?;
+    let told = ("B2 at \"/keys\"\n", "landmap: B2\n");
+    found(&rt, &rt, more.as_str(), 1, told)?;
     Ok(())
 }
 

@@ -67,6 +67,8 @@ fn subjects_and_document(rt: HostRuntime) {
 /// A configuration of two subjects that says all that may be said of HTTP.
 const HTTP: &str = r#"{"policies":{"root":{"policy":"p","combine":"deny-overrides","rules":[]}},
  "collections":["mast","road-2"],"public":"https://maps.agency.example/map","anonymous":"ada",
+ "keys":[{"sha256":"00112233445566778899AABBccddeeff0102030405060708090a0b0c0d0e0f10","subject":"ines"},
+  {"subject":"ada","sha256":"ffffffffffffffffffffffffffffffffffffffffffffffffffffffffffffffff"}],"trusted-field":false,
  "subjects":[{"role":"editor","office":"north","name":"ines"},
   {"name":"ada","office":"hq","role":"chief","steward":true}]}"#;
 
@@ -87,10 +89,30 @@ fn says_of_http<A: Allocator>(rt: &impl Abort, config: &Config<A>) {
     assert_eq!(rt; config.web.collections[1].as_bytes(), b"road-2".as_slice());
 }
 
+/// The digest of the first key.
+const FIRST_DIGEST: [u8; 32] = [
+    0x00, 0x11, 0x22, 0x33, 0x44, 0x55, 0x66, 0x77, 0x88, 0x99, 0xaa, 0xbb, 0xcc, 0xdd, 0xee, 0xff,
+    1, 2, 3, 4, 5, 6, 7, 8, 9, 10, 11, 12, 13, 14, 15, 16,
+];
+
+/// Checks the keys.
+fn says_of_keys<A: Allocator>(rt: &impl Abort, config: &Config<A>) {
+    let keys = config.web.keys.as_slice();
+    assert_eq!(rt; keys.len(), 2);
+    assert_eq!(rt; keys[0].subject.as_bytes(), b"ines".as_slice());
+    assert!(rt; keys[0].digest == FIRST_DIGEST);
+    assert_eq!(rt; keys[1].subject.as_bytes(), b"ada".as_slice());
+    assert!(rt; keys[1].digest == [0xff; 32]);
+    assert!(rt; !config.web.trusted_field);
+}
+
 #[test]
 fn said_of_http(rt: HostRuntime) {
     match read_config(rt.alloc(), rt.alloc(), HTTP.as_bytes()) {
-        Ok(config) => says_of_http(&rt, &config),
+        Ok(config) => {
+            says_of_http(&rt, &config);
+            says_of_keys(&rt, &config);
+        }
         Err(fault) => assert!(rt; false, "{fault}"),
     }
     match read_config(rt.alloc(), rt.alloc(), TWO.as_bytes()) {
@@ -98,6 +120,8 @@ fn said_of_http(rt: HostRuntime) {
             assert!(rt; config.web.anonymous.is_none());
             assert!(rt; config.web.public.is_none());
             assert_eq!(rt; config.web.collections.len(), 0);
+            assert_eq!(rt; config.web.keys.len(), 0);
+            assert!(rt; !config.web.trusted_field);
         }
         Err(fault) => assert!(rt; false, "{fault}"),
     }

@@ -1,5 +1,5 @@
-//! Tests of configurations, of the program's runs, and of command lines for a server, for a talk
-//! with one, for an export and for an import.
+//! Tests of configurations, of the program's runs, of secrets, and of command lines for a server, for
+//! a talk with one, for a secret, for an export and for an import.
 #![tactic(auto)]
 
 #[cfg(test)]
@@ -12,6 +12,8 @@ mod connect_tests;
 mod run_tests;
 #[cfg(test)]
 mod running;
+#[cfg(test)]
+mod secret_tests;
 #[cfg(test)]
 mod serve_tests;
 #[cfg(test)]

@@ -101,6 +101,7 @@ pub(crate) fn status_of(rt: &impl Abort, next: &Next<'_>) -> u8 {
         Next::Connect(_) => panic!(rt; "a talk is asked for"),
         Next::Keep(_) => panic!(rt; "a script over a store is asked for"),
         Next::Look(_) => panic!(rt; "a look at a store is asked for"),
+        Next::Secret(_) => panic!(rt; "a secret is asked for"),
         Next::Transfer(_) => panic!(rt; "an export or an import is asked for"),
     }
 }

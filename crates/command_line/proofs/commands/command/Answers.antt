@@ -1,5 +1,5 @@
 use Rattle.std.proofs.lemmas.Result.{IfOk-weaker}
-use Rattle.command_line.specs.CommandLine.{check_line, completions_line, connect_line, draw_line, export_line, import_line, man_line, script_line, serve_line, store_line}
+use Rattle.command_line.specs.CommandLine.{check_line, completions_line, connect_line, draw_line, export_line, import_line, man_line, script_line, secret_line, serve_line, store_line}
 use Rattle.command_line.proofs.CommandLemmas.{adds_command}
 use Rattle.command_line.proofs.commands.command.Goals as goal
 
@@ -13,5 +13,6 @@ returns c =
     let six = adds_command _ export_line _ _ _ five c.in_ok-export_command.ensures c.in_ok-subcommand-6.ensures in
     let seven = adds_command _ import_line _ _ _ six c.in_ok-import_command.ensures c.in_ok-subcommand-7.ensures in
     let eight = adds_command _ store_line _ _ _ seven c.in_ok-store_command.ensures c.in_ok-subcommand-8.ensures in
-    let nine = adds_command _ man_line _ _ _ eight c.man_command.ensures c.in_ok-subcommand-9.ensures in
-    IfOk-weaker c.subcommand-10.result _ _ (λ command h. adds_command _ completions_line _ _ command nine c.in_ok-completions_command.ensures h) c.subcommand-10.ensures
+    let nine = adds_command _ secret_line _ _ _ eight c.in_ok-secret_command.ensures c.in_ok-subcommand-9.ensures in
+    let ten = adds_command _ man_line _ _ _ nine c.man_command.ensures c.in_ok-subcommand-10.ensures in
+    IfOk-weaker c.subcommand-11.result _ _ (λ command h. adds_command _ completions_line _ _ command ten c.in_ok-completions_command.ensures h) c.subcommand-11.ensures

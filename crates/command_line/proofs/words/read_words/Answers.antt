@@ -20,5 +20,6 @@ unreachable-requires c =
     (λ exports. true≢false (sym (c.in_default-subcommand_matches-5.ensures.found.1 (named ∙ exports))))
     (λ imports. true≢false (sym (c.in_default-subcommand_matches-6.ensures.found.1 (named ∙ imports))))
     (λ stores. true≢false (sym (c.in_default-subcommand_matches-7.ensures.found.1 (named ∙ stores))))
-    (λ man. true≢false (sym (c.in_default-subcommand_matches-8.ensures.found.1 (named ∙ man))))
-    (λ completions. true≢false (sym (c.in_default-subcommand_matches-9.ensures.found.1 (named ∙ completions))))
+    (λ secrets. true≢false (sym (c.in_default-subcommand_matches-8.ensures.found.1 (named ∙ secrets))))
+    (λ man. true≢false (sym (c.in_default-subcommand_matches-9.ensures.found.1 (named ∙ man))))
+    (λ completions. true≢false (sym (c.in_default-subcommand_matches-10.ensures.found.1 (named ∙ completions))))

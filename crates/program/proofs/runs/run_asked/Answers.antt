@@ -18,6 +18,12 @@ returns-in-Ok-Store g c =
     let asked = subst (λ r. IfOk r (IsAsked words)) c.in-Ok-Store.is c.read_words.ensures in
     (subst (IsAsked words) c.in-Ok-Store.field-0-is asked, refl)
 
+pub returns-in-Ok-Secret : goal.returns-in-Ok-Secret
+returns-in-Ok-Secret g c =
+    let words : List (List ℕ) = map (λ word. string_bytes word) c.args.words.now in
+    let asked = subst (λ r. IfOk r (IsAsked words)) c.in-Ok-Secret.is c.read_words.ensures in
+    (subst (IsAsked words) c.in-Ok-Secret.field-0-is asked, refl)
+
 pub returns-in-Ok-Serve : goal.returns-in-Ok-Serve
 returns-in-Ok-Serve g c =
     let words : List (List ℕ) = map (λ word. string_bytes word) c.args.words.now in

@@ -25,6 +25,11 @@ returns-in-Ok-Look g c =
     let wanted = rw (c.in-Ok-Look.is, c.in-Ok-Look.field-0-is) at c.run_asked.ensures in
     (wanted.0, wanted.1, refl)
 
+pub returns-in-Ok-Secret : goal.returns-in-Ok-Secret
+returns-in-Ok-Secret g c =
+    let wanted = rw (c.in-Ok-Secret.is, c.in-Ok-Secret.field-0-is) at c.run_asked.ensures in
+    (wanted.0, wanted.1, refl)
+
 pub returns-in-Ok-Mistaken : goal.returns-in-Ok-Mistaken
 returns-in-Ok-Mistaken g c =
     was_turned_down _ _ _ g.O.Write.contents c.args.output.now c.run_asked.new.output c.run_asked.result c.in-Ok-Mistaken.field-0 c.in-Ok-Mistaken.mistake c.run_asked.ensures c.in-Ok-Mistaken.is c.in-Ok-Mistaken.field-0-is
