@@ -61,6 +61,7 @@ const RECEIVED_FROM_HOSTS: [&str; 16] = [
 ];
 
 /// How it is said at a server who asks.
+#[derive(Clone, Copy)]
 pub(crate) struct Door<'a> {
     pub anonymous: Option<Name>,
     pub keys: &'a [Key],
