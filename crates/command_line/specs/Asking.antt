@@ -1,7 +1,7 @@
 -- What the words of a command line ask for.
-use Rattle.std.specs.Prelude.{◌≡◌, ◌≤◌, ◌⊎◌, ℕ, false, List, [], IfSome, Option, Some, codes, None, option_and_then, option_map, unwrap_or}
+use Rattle.std.specs.Prelude.{◌≡◌, ◌≤◌, ◌⊎◌, ℕ, true, false, List, [], IfSome, Option, Some, codes, None, option_and_then, option_map, unwrap_or}
 use Rattle.clap.specs.Words.{IsAmong, Row, Text, kind_of, subcommand_of, subcommand_rows_of}
-use Rattle.command_line.specs.CommandLine.{AreTurnedDown, AskFor, AskForHelp, command_line, action_at, flag_at, format_at, given_by, name_at, number_at, refusals, shell_at, shell_named, waits_at}
+use Rattle.command_line.specs.CommandLine.{AreTurnedDown, AskFor, AskForHelp, command_line, action_at, flag_at, format_at, given_by, is_name_at, number_at, refusals, shell_at, shell_named, waits_at}
 use Rattle.command_line.specs.Http.{IsHttpAt, IsHttpFault}
 use Rattle.command_line.specs.declared.commands.Reading.{Reading}
 use Rattle.command_line.specs.declared.commands.Reading.TheVariants.{Given, Told}
@@ -122,8 +122,9 @@ IsAskedStore given _ = ⊥
 
 -- a secret for the name that is given, or nothing, since it is none
 abbrev pub IsAskedSecret : (Text → Option Text) → Asked → Type 0
-IsAskedSecret given (Secret name) = name_at given (codes "NAME") ≡ Some name
-IsAskedSecret given (Mistake text) = name_at given (codes "NAME") ≡ None
+IsAskedSecret given (Secret name) =
+    (given (codes "NAME") ≡ Some name.now) × (is_name_at given (codes "NAME") ≡ true)
+IsAskedSecret given (Mistake text) = is_name_at given (codes "NAME") ≡ false
 IsAskedSecret given _ = ⊥
 
 -- completions for the shell that is given, or nothing, since there are none for it
@@ -149,7 +150,8 @@ IsAsked words (Export given) = AskFor (codes "export") words × HasExport (given
 IsAsked words (Import given) = AskFor (codes "import") words × HasImport (given_by words) given
 IsAsked words (Store given) = AskFor (codes "store") words × HasStore (given_by words) given
 IsAsked words (Secret name) =
-    AskFor (codes "secret") words × (name_at (given_by words) (codes "NAME") ≡ Some name)
+    AskFor (codes "secret") words × (given_by words (codes "NAME") ≡ Some name.now)
+    × (is_name_at (given_by words) (codes "NAME") ≡ true)
 IsAsked words Man = AskFor (codes "man") words
 IsAsked words (Completions shell) =
     AskFor (codes "completions") words × (shell_at (given_by words) (codes "SHELL") ≡ Some shell)

@@ -2,7 +2,7 @@
 -- `landmap connect --socket PATH`, `landmap check --config FILE`, `landmap draw SCRIPT`, `landmap
 -- export` and `landmap import` with their options, `landmap store ACTION DIR [--features]`, `landmap
 -- secret NAME`, `landmap man`, and `landmap completions SHELL`.
-use Rattle.std.specs.Prelude.{◌≡◌, ◌≢◌, ◌⊎◌, ℕ, Bool, true, false, List, [], ◌∷◌, Option, None, Some, codes, if◌then◌else◌, fold, option_map, option_and_then, pos}
+use Rattle.std.specs.Prelude.{◌≡◌, ◌≢◌, ◌⊎◌, ℕ, Bool, true, false, List, [], ◌∷◌, Option, None, Some, codes, if◌then◌else◌, fold, is_some, option_map, option_and_then, pos}
 use Rattle.std.specs.Option.{option_map_or}
 use Rattle.std.specs.Str.{bytes_eq}
 use Rattle.std.specs.Str.Parse.{digits_value, without_leading_plus}
@@ -221,13 +221,13 @@ action_named name =
 abbrev pub action_at : (Text → Option Text) → Text → Option StoreAction
 action_at given id = option_and_then action_named (given id)
 
--- the name (of a subject) that is given for an argument
-abbrev pub name_at : (Text → Option Text) → Text → Option (List ℕ)
-name_at given id = option_and_then name_of (given id)
+-- what is given for an argument is a name
+abbrev pub is_name_at : (Text → Option Text) → Text → Bool
+is_name_at given id = option_map_or (λ text. is_some (name_of text)) (given id) false
 
 -- the words ask for a secret of what is no name
 abbrev pub NameNoName : List Text → Type 0
-NameNoName words = AskFor (codes "secret") words × (name_at (given_by words) (codes "NAME") ≡ None)
+NameNoName words = AskFor (codes "secret") words × (is_name_at (given_by words) (codes "NAME") ≡ false)
 
 -- the words ask for a server whose replies wait for what there is not
 abbrev pub NameNoWait : List Text → Type 0

@@ -1,6 +1,6 @@
 //! For whom a secret is asked.
 
-ghost use Rattle.std.specs.Prelude.{◌≡◌, codes};
+ghost use Rattle.std.specs.Prelude.{◌≡◌, codes, is_some};
 ghost use Rattle.clap.specs.Words.{first_of, found_of, rows_of};
 ghost use Rattle.features.specs.Names.{name_of};
 ghost use Rattle.command_line.specs.Asking.{IsAskedSecret, IsGiven};
@@ -9,11 +9,11 @@ use crate::words::{Asked, Shown};
 use clap::ArgMatches;
 use features::Name;
 
-/// The name that a text is.
-fn name_in(text: &str) -> Option<Name>
-    ensures { result ≡ name_of text.now }
+/// Whether a text is a name.
+fn is_name(text: &str) -> bool
+    ensures { result ≡ is_some (name_of text.now) }
 {
-    Name::new(text.as_bytes())
+    Name::new(text.as_bytes()).is_some()
 }
 
 /// The name given to `secret`, or a mistake, where it is none. It is required, so it is there.
@@ -24,8 +24,9 @@ pub(crate) fn asked_secret<'a>(given: &ArgMatches<'a>) -> Asked<'a>
     let Some(text) = given.get_str("NAME") else {
         unreachable!()
     };
-    match name_in(text) {
-        Some(name) => Asked::Secret(name),
-        None => Asked::Mistake(Shown::NoName(text)),
+    if is_name(text) {
+        Asked::Secret(text)
+    } else {
+        Asked::Mistake(Shown::NoName(text))
     }
 }

@@ -14,7 +14,6 @@ use crate::stores::{StoreWords, Waits, asked_store, waits_of};
 use crate::transfers::{ExportWords, ImportWords, asked_export, asked_import};
 use clap::error::ErrorKind;
 use clap::{ArgMatches, Error};
-use features::Name;
 use std::alloc::Global;
 use std::fmt;
 
@@ -109,8 +108,8 @@ pub enum Asked<'a> {
     Import(ImportWords<'a>),
     /// Look at a store.
     Store(StoreWords<'a>),
-    /// Make a secret for this subject.
-    Secret(Name),
+    /// Make a secret for the subject of this name, which is one.
+    Secret(&'a str),
     /// Print the manual page.
     Man,
     /// Print completions for a shell.

@@ -504,7 +504,7 @@ fn main(rt: HostRuntime) -> ExitCode {
         Next::Connect(path) => connect(&rt, path, &mut errors),
         Next::Keep(wanted) => run_stored(&rt, wanted, &mut errors),
         Next::Look(words) => look_at_store(&rt, words, &mut errors),
-        Next::Secret(subject) => make_secret(&rt, subject, &mut errors),
+        Next::Secret(name) => make_secret(&rt, name, &mut errors),
         Next::Transfer(wanted) => transfer(&rt, wanted, &mut errors),
     }
 }

@@ -11,12 +11,18 @@ use std::io::Stderr;
 use std::process::ExitCode;
 use std::random::RandomSource;
 
+/// What is told of a text that is no name. `run_program` has looked, so it does not come to that.
+const NO_NAME: &str = "no name";
+
 /// What is told where the host gives no random bytes.
 const NO_RANDOMNESS: &str = "no randomness";
 
 /// Draws a secret from the host's own randomness, prints it and its entry for a subject, and returns
 /// the exit status. The secret is kept nowhere.
-pub(crate) fn make_secret(rt: &HostRuntime, subject: Name, errors: &mut Stderr) -> ExitCode {
+pub(crate) fn make_secret(rt: &HostRuntime, name: &str, errors: &mut Stderr) -> ExitCode {
+    let Some(subject) = Name::new(name.as_bytes()) else {
+        return fail(&ProgramFault::Talk(NO_NAME), errors);
+    };
     let mut random = [0; RANDOM_LENGTH];
     if rt.fill_bytes(&mut random).is_err() {
         return fail(&ProgramFault::Talk(NO_RANDOMNESS), errors);

@@ -1,8 +1,8 @@
 -- What a run of the program writes and returns.
-use Rattle.std.specs.Prelude.{◌≡◌, ℕ, List, Option, None, Some, IfSome, Result, Ok, Err, codes, option_map}
+use Rattle.std.specs.Prelude.{◌≡◌, ℕ, true, List, Option, None, Some, IfSome, Result, Ok, Err, codes, option_map}
 use Rattle.byte_streams.specs.Written.{Took}
 use Rattle.command_line.specs.Asking.{HasExport, HasImport, HasOptions, HasStore, IsUpTo}
-use Rattle.command_line.specs.CommandLine.{AreTurnedDown, AskFor, AskForHelp, given_by, name_at, number_at, waits_at}
+use Rattle.command_line.specs.CommandLine.{AreTurnedDown, AskFor, AskForHelp, given_by, is_name_at, number_at, waits_at}
 use Rattle.command_line.specs.Http.{IsHttpAt}
 use Rattle.command_line.specs.declared.options.TheConstants.{HTTP_WORKER_LIMIT}
 use Rattle.configuration.specs.Configs.{ConfigData, config_data, grid_data}
@@ -122,7 +122,8 @@ WantLook words given = AskFor (codes "store") words × HasStore (given_by words)
 -- these words ask for a secret for this subject
 abbrev pub WantSecret : List (List ℕ) → List ℕ → Type 0
 WantSecret words subject =
-    AskFor (codes "secret") words × (name_at (given_by words) (codes "NAME") ≡ Some subject)
+    AskFor (codes "secret") words × (given_by words (codes "NAME") ≡ Some subject)
+    × (is_name_at (given_by words) (codes "NAME") ≡ true)
 
 -- these words ask for a talk with the server at this path
 abbrev pub WantTalk : List (List ℕ) → List ℕ → Type 0
@@ -253,7 +254,7 @@ IsAnswer words held closed written output output_after (Ok (answers.Keep wanted)
 IsAnswer words held closed written output output_after (Ok (answers.Look given)) =
     WantLook words given × (output_after ≡ output)
 IsAnswer words held closed written output output_after (Ok (answers.Secret subject)) =
-    WantSecret words subject × (output_after ≡ output)
+    WantSecret words subject.now × (output_after ≡ output)
 IsAnswer words held closed written output output_after (Ok (answers.Transfer wanted)) =
     WantTransfer words held wanted × (output_after ≡ output)
 IsAnswer words held closed written output output_after (Ok (answers.Mistaken mistake)) =
@@ -289,6 +290,6 @@ IsNext words held closed written output output_after told errors errors_after (n
 IsNext words held closed written output output_after told errors errors_after (next.Look given) =
     WantLook words given × (output_after ≡ output) × (errors_after ≡ errors)
 IsNext words held closed written output output_after told errors errors_after (next.Secret subject) =
-    WantSecret words subject × (output_after ≡ output) × (errors_after ≡ errors)
+    WantSecret words subject.now × (output_after ≡ output) × (errors_after ≡ errors)
 IsNext words held closed written output output_after told errors errors_after (next.Transfer wanted) =
     WantTransfer words held wanted × (output_after ≡ output) × (errors_after ≡ errors)

@@ -7,7 +7,6 @@ use crate::faults::ProgramFault;
 use byte_streams::{Flushed, WriteFailed};
 use command_line::{ExportWords, HttpWord, ImportWords, ServerOptions, StoreWords, Waits};
 use configuration::Config;
-use features::Name;
 use grid::Grid;
 use std::alloc::Global;
 use world::FeatureLimit;
@@ -99,8 +98,8 @@ pub enum Next<'a> {
     Keep(WantedScript<'a>),
     /// Look at a store: it is not opened yet.
     Look(StoreWords<'a>),
-    /// Make a secret for this subject: nothing is drawn yet.
-    Secret(Name),
+    /// Make a secret for the subject of this name: nothing is drawn yet.
+    Secret(&'a str),
     /// Export or import: no server is connected yet.
     Transfer(WantedTransfer<'a>),
 }

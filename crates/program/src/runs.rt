@@ -16,7 +16,6 @@ use byte_streams::{Flushed, NotOpened, flush, write_shown};
 use command_line::{Asked, ScriptWords, ServeWords, Shell, Shown, StoreWords, read_words};
 use configuration::{Config, FileFault, ReadFault, read_config_file};
 use feature_store::FEATURE_LIMIT;
-use features::Name;
 use grid::Grid;
 use scripts::run_script;
 use std::alloc::{Allocator, Global};
@@ -192,7 +191,7 @@ enum Answer<'a> {
     /// They ask for this look at a store.
     Look(StoreWords<'a>),
     /// They ask for a secret for this subject.
-    Secret(Name),
+    Secret(&'a str),
     /// They ask for this export or import.
     Transfer(WantedTransfer<'a>),
     /// clap rejected them, with this text.
