@@ -41,7 +41,12 @@ fn with_web<'a>(stop: &'a Stop, web: &'a Web<'a>) -> SocketOptions<'a> {
 }
 
 /// HTTP at a path, for `south`, by so many workers.
-fn web<'a>(place: WebPlace<'a>, site: &'a Site<'a>, random: RandomState, workers: usize) -> Web<'a> {
+fn web<'a>(
+    place: WebPlace<'a>,
+    site: &'a Site<'a>,
+    random: RandomState,
+    workers: usize,
+) -> Web<'a> {
     Web {
         place,
         site,
