@@ -505,7 +505,7 @@ fn pages(rt: HostRuntime) -> Result<(), Fail> {
     ];
     prints(&rt, &rt, &["man"], &man)?;
     let bash = [
-        "compgen -W 'script serve connect check draw export import store man completions help --help'",
+        "compgen -W 'script serve connect check draw export import store secret man completions help --help'",
         "\n        check) options='--config --help' ;;\n",
         "\ncomplete -o filenames -F _landmap landmap\n",
     ];
