@@ -26,7 +26,7 @@ USUAL = 100_000
 BIN = "/usr/lib/postgresql/15/bin"
 CONFIGURATION = {
     "subjects": [{"name": "guest", "office": "public", "role": "guest"}, {"name": "north", "office": "north", "role": "surveyor"}],
-    "policies": {"root": {"policy": "all", "combine": "first-applicable", "rules": [{"rule": "all", "effect": "permit"}]}},
+    "policies": {"root": {"policy": "map", "combine": "first-applicable", "rules": [{"rule": "all-is-permitted", "effect": "permit"}]}},
     "grid": {"origin": ["7", "46"], "decimals": 7},
     "anonymous": "guest",
     "collections": ["mast"],
