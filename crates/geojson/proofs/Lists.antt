@@ -10,12 +10,7 @@ use Rattle.geojson.specs.declared.faults.CoordinatesFault.{CoordinatesFault}
 use Rattle.geojson.specs.Faults.{is_memory, in_path, ◌>>=◌}
 use Rattle.grid.specs.declared.grids.Grid.{Grid}
 use Rattle.geojson.specs.declared.geometries.Layout.{Layout}
-use Rattle.geojson.specs.Reading.{list_from, with_front, with_role, role_at, points_in, path_at}
-
--- these values, and behind them those of the reading
-abbrev pub with_all : {T : Type 0} → List T → Result (List T) CoordinatesFault → Result (List T) CoordinatesFault
-with_all xs (Ok ys) = Ok (xs ++ ys)
-with_all xs (Err fault) = Err fault
+use Rattle.geojson.specs.Reading.{list_from, with_all, with_front, with_role, role_at, points_in, path_at}
 
 pub with_none : {T : Type 0} (r : Result (List T) CoordinatesFault) → r ≡ with_all [] r
 with_none (Ok ys) = refl
@@ -26,7 +21,7 @@ with_one_more xs x (Ok ys) = ap Ok (sym (append_assoc xs (x ∷ []) ys))
 with_one_more xs x (Err fault) = refl
 
 -- the value at an index, and those behind it
-items_at : {A : Type 0} (vs : List (Value A)) (i : ℕ) (d : Value A) → i < length vs
+pub items_at : {A : Type 0} (vs : List (Value A)) (i : ℕ) (d : Value A) → i < length vs
     → items_view (drop i vs) ≡ item (value_view (get_or vs i d)) (items_view (drop (suc i) vs))
 items_at vs i d lt = ap items_view (drop-cons vs i d lt)
 
@@ -63,7 +58,7 @@ list_end read vs xs whole i le so_far =
     so_far ∙ ap (λ ws. with_all xs (list_from read i (items_view ws))) (drop_all i vs le) ∙ ap Ok (append-nil xs)
 
 -- what is told of a fault holds of what follows from it
-go-told : (b : Bool) (P Q : Type 0) → (P → Q) → MatchBool b ⊤ P → MatchBool b ⊤ Q
+pub go-told : (b : Bool) (P Q : Type 0) → (P → Q) → MatchBool b ⊤ P → MatchBool b ⊤ Q
 go-told true P Q f p = tt
 go-told false P Q f p = f p
 
@@ -89,3 +84,9 @@ pub path_fault : (grid : Grid) (layout : Layout) (n : ℕ) (j : Json) (fault : C
 path_fault grid layout n j fault told =
     go-told (is_memory fault.cause) (points_in grid j ≡ Err fault) (path_at grid layout n j ≡ Err (record { cause = fault.cause; spot = record fault.spot { path = Some n } }))
     (λ e. ap (λ r. in_path n (with_role (role_at layout n) r)) e) told
+
+-- a fault behind no values
+pub none_told : {T : Type 0} (r : Result (List T) CoordinatesFault) (fault : CoordinatesFault) → MatchBool (is_memory fault.cause) ⊤ (with_all [] r ≡ Err fault)
+    → MatchBool (is_memory fault.cause) ⊤ (r ≡ Err fault)
+none_told r fault told =
+    go-told (is_memory fault.cause) (with_all [] r ≡ Err fault) (r ≡ Err fault) (λ e. with_none r ∙ e) told

@@ -4,3 +4,5 @@ pub mod Faults
 pub mod Reading
 pub mod Paths
 pub mod Trees
+pub mod Pointers
+pub mod Given

@@ -1,5 +1,5 @@
 -- The coordinates of a geometry, read from a JSON value, or their first fault with its place.
-use Rattle.std.specs.Prelude.{ℕ, zero, suc, ℤ, List, [], ◌∷◌, Option, Some, None, Result, Ok, Err}
+use Rattle.std.specs.Prelude.{ℕ, zero, suc, ℤ, List, [], ◌∷◌, ◌++◌, Option, Some, None, Result, Ok, Err}
 use Rattle.json.specs.Find.{at, as_array, as_number}
 use Rattle.json.specs.Json.{Json, Items, no_items, item}
 use Rattle.plane.specs.declared.point.Point.{Point}
@@ -46,6 +46,12 @@ position_in grid j = position_of grid (at 0 j) (at 1 j)
 abbrev pub with_front : {T : Type 0} → T → Result (List T) CoordinatesFault → Result (List T) CoordinatesFault
 with_front x (Ok xs) = Ok (x ∷ xs)
 with_front x (Err fault) = Err fault
+
+-- these values, and behind them those of a reading
+abbrev pub with_all : {T : Type 0} → List T → Result (List T) CoordinatesFault
+    → Result (List T) CoordinatesFault
+with_all xs (Ok ys) = Ok (xs ++ ys)
+with_all xs (Err fault) = Err fault
 
 -- the values of an array, each read with its index, the first of which is `n`
 unfoldable pub list_from : {T : Type 0} → (ℕ → Json → Result T CoordinatesFault) → ℕ → Items

@@ -14,8 +14,12 @@ pub struct JsonRefused {
 }
 
 impl JsonRefused {
+    ghost use Rattle.geojson.specs.Faults.{json_refused};
+
     /// Called only after the reader of JSON was out of memory.
-    pub(crate) fn seen() -> Self {
+    pub(crate) fn seen() -> Self
+        ensures { result ≡ json_refused }
+    {
         JsonRefused { seal: () }
     }
 }
@@ -179,8 +183,12 @@ pub enum Member {
 }
 
 impl Member {
+    ghost use Rattle.geojson.specs.Pointers.{pointer_of};
+
     /// The member's JSON pointer (RFC 6901).
-    pub fn pointer(self) -> &'static str {
+    pub fn pointer(self) -> &'static str
+        ensures { result.now ≡ pointer_of self }
+    {
         match self {
             Member::Text => "",
             Member::Type => "/type",
@@ -207,8 +215,12 @@ pub struct FeatureFault {
 }
 
 impl FeatureFault {
+    ghost use Rattle.geojson.specs.Faults.{fault_at};
+
     /// A fault of a whole member.
-    pub(crate) fn at(member: Member, cause: Cause) -> Self {
+    pub(crate) fn at(member: Member, cause: Cause) -> Self
+        ensures { result ≡ fault_at member cause }
+    {
         FeatureFault {
             cause,
             member,

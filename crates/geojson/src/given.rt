@@ -1,12 +1,26 @@
 //! Reads a feature from its text.
 
+ghost use Rattle.std.specs.Prelude.{◌≡◌, [], ◌∷◌, Ok, option_map};
+ghost use Rattle.json.specs.Find.{get};
+ghost use Rattle.json.specs.Value.{value_view};
+ghost use Rattle.geojson.specs.Faults.{Gives, unread_cause};
+ghost use Rattle.geojson.specs.Paths.{geometry_view};
+ghost use Rattle.geojson.specs.Given.{Tells, Reads, given_view, all_wished};
+ghost use Rattle.geojson.specs.Given.{kind_of, kind_in, type_name, whole_member, type_member, coordinates_member};
+ghost use Rattle.geojson.specs.Given.{point_in, line_in, coordinates_in, listed_in, geometry_in, geometry_of};
+ghost use Rattle.geojson.specs.Given.{present, whole_number, name_in, number_member, name_member, property};
+ghost use Rattle.geojson.specs.Given.{id_in, version_in, office_in, class_in, if_wished, said_in};
+ghost use Rattle.geojson.specs.Given.{is_feature, whole_feature, bare_in, with_paths, feature_in};
+
 use crate::faults::{Cause, CoordinatesFault, FeatureFault, JsonRefused, Member};
 use crate::geometries::{Geometry, Layout, Path, Role};
+use crate::polygons::polygons;
 use crate::reading::{paths, points, position};
 use features::Name;
 use grid::Grid;
 use json::{Error, Scratch, Value};
 use memory::GrowVec;
+use plane::Point;
 use std::alloc::Allocator;
 
 /// What a text says of a feature.
@@ -35,91 +49,71 @@ enum Kind {
 }
 
 /// The type of geometry with this name (RFC 7946, 1.4).
-fn kind_of(name: &str) -> Option<Kind> {
-    match name {
-        "Point" => Some(Kind::Point),
-        "LineString" => Some(Kind::LineString),
-        "Polygon" => Some(Kind::Polygon),
-        "MultiLineString" => Some(Kind::MultiLineString),
-        "MultiPolygon" => Some(Kind::MultiPolygon),
-        _ => None,
+fn kind_of(name: &str) -> Option<Kind>
+    ensures { result ≡ kind_of name.now }
+{
+    if name == "Point" {
+        Some(Kind::Point)
+    } else if name == "LineString" {
+        Some(Kind::LineString)
+    } else if name == "Polygon" {
+        Some(Kind::Polygon)
+    } else if name == "MultiLineString" {
+        Some(Kind::MultiLineString)
+    } else if name == "MultiPolygon" {
+        Some(Kind::MultiPolygon)
+    } else {
+        None
     }
 }
 
+/// The name of a value's type.
+fn type_name<'a, A: Allocator>(value: &Value<'a, A>) -> Option<&'a str>
+    ensures { option_map (λ s. s.now) result ≡ type_name (value_view value.now) }
+{
+    value.get("type")?.as_str()
+}
+
 /// A geometry of one path.
-fn one_path<A: Allocator + Copy>(alloc: A, path: Path<A>) -> Result<Geometry<A>, CoordinatesFault> {
+#[tactic(auto, using(crate::proofs::Told::exact_told))]
+fn one_path<A: Allocator + Copy>(
+    alloc: A,
+    role: Role,
+    points: Vec<Point, A>,
+) -> Result<Geometry<A>, CoordinatesFault>
+    ensures { Gives geometry_view result (Ok ((role, points.items) ∷ [])) }
+{
     let mut paths = Vec::new(alloc);
-    paths.try_push(path)?;
+    paths.try_push(Path { role, points })?;
     Ok(Geometry { paths })
 }
 
 /// The path of a position.
+#[tactic(auto, using(crate::proofs::Told::exact_told))]
 fn point_path<A: Allocator + Copy>(
     alloc: A,
     grid: &Grid,
     value: &Value<'_, A>,
-) -> Result<Geometry<A>, CoordinatesFault> {
+) -> Result<Geometry<A>, CoordinatesFault>
+    ensures { Gives geometry_view result (point_in grid.now (value_view value.now)) }
+{
     let point = position(grid, value)?;
     let mut points = Vec::new(alloc);
     points.try_push(point)?;
-    one_path(
-        alloc,
-        Path {
-            role: Role::Point,
-            points,
-        },
-    )
+    one_path(alloc, Role::Point, points)
 }
 
 /// The path of a line.
+#[tactic(auto, using(crate::proofs::Told::line_fault))]
 fn line_path<A: Allocator + Copy>(
     alloc: A,
     grid: &Grid,
     value: &Value<'_, A>,
-) -> Result<Geometry<A>, CoordinatesFault> {
+) -> Result<Geometry<A>, CoordinatesFault>
+    ensures { Gives geometry_view result (line_in grid.now (value_view value.now)) }
+{
     let points = points(alloc, grid, value)?;
-    one_path(
-        alloc,
-        Path {
-            role: Role::Line,
-            points,
-        },
-    )
-}
-
-/// Appends the paths of the polygon at an index.
-fn put_polygon<A: Allocator + Copy>(
-    alloc: A,
-    grid: &Grid,
-    value: &Value<'_, A>,
-    index: usize,
-    all: &mut Vec<Path<A>, A>,
-) -> Result<(), CoordinatesFault> {
-    match paths(alloc, grid, Layout::Rings, value) {
-        Ok(paths) => {
-            for path in paths {
-                all.try_push(path)?;
-            }
-            Ok(())
-        }
-        Err(fault) => Err(fault.in_polygon(index)),
-    }
-}
-
-/// The paths of an array of polygons.
-fn polygon_paths<A: Allocator + Copy>(
-    alloc: A,
-    grid: &Grid,
-    value: &Value<'_, A>,
-) -> Result<Geometry<A>, CoordinatesFault> {
-    let Value::Array(items) = value else {
-        return Err(CoordinatesFault::here(Cause::Form));
-    };
-    let mut all = Vec::new(alloc);
-    for (index, item) in items.iter().enumerate() {
-        put_polygon(alloc, grid, item, index, &mut all)?;
-    }
-    Ok(Geometry { paths: all })
+    one_path(alloc, Role::Line, points)
 }
 
 /// The geometry of coordinates.
@@ -128,7 +122,9 @@ fn coordinates<A: Allocator + Copy>(
     grid: &Grid,
     kind: Kind,
     value: &Value<'_, A>,
-) -> Result<Geometry<A>, CoordinatesFault> {
+) -> Result<Geometry<A>, CoordinatesFault>
+    ensures { Gives geometry_view result (coordinates_in grid.now kind (value_view value.now)) }
+{
     match kind {
         Kind::Point => point_path(alloc, grid, value),
         Kind::LineString => line_path(alloc, grid, value),
@@ -138,70 +134,131 @@ fn coordinates<A: Allocator + Copy>(
         Kind::MultiLineString => Ok(Geometry {
             paths: paths(alloc, grid, Layout::Lines, value)?,
         }),
-        Kind::MultiPolygon => polygon_paths(alloc, grid, value),
+        Kind::MultiPolygon => Ok(Geometry {
+            paths: polygons(alloc, grid, value)?,
+        }),
     }
 }
 
-/// A geometry. `bare` says whether it is the whole text, and no member of a feature.
-fn geometry<A: Allocator + Copy>(
+/// The member that a geometry is. `bare` says whether it is the whole text, and no member of a
+/// feature.
+fn whole_member(bare: bool) -> Member
+    ensures { result ≡ whole_member bare }
+{
+    if bare { Member::Text } else { Member::Geometry }
+}
+
+/// The member that is a geometry's type.
+fn type_member(bare: bool) -> Member
+    ensures { result ≡ type_member bare }
+{
+    if bare {
+        Member::Type
+    } else {
+        Member::GeometryType
+    }
+}
+
+/// The member that is a geometry's coordinates.
+fn coordinates_member(bare: bool) -> Member
+    ensures { result ≡ coordinates_member bare }
+{
+    if bare {
+        Member::BareCoordinates
+    } else {
+        Member::Coordinates
+    }
+}
+
+/// The type of a geometry.
+#[tactic(auto, unfolding(crate::specs::Given::kind_in))]
+fn kind_in<A: Allocator>(bare: bool, value: &Value<'_, A>) -> Result<Kind, FeatureFault>
+    ensures { result ≡ kind_in bare (value_view value.now) }
+{
+    let Value::Object(_) = value else {
+        return Err(FeatureFault::at(whole_member(bare), Cause::Form));
+    };
+    let Some(name) = type_name(value) else {
+        return Err(FeatureFault::at(type_member(bare), Cause::Form));
+    };
+    match kind_of(name) {
+        Some(kind) => Ok(kind),
+        None => Err(FeatureFault::at(type_member(bare), Cause::Kind)),
+    }
+}
+
+/// The geometry of the coordinates of a type, if they are there.
+#[tactic(auto, using(crate::proofs::Told::listed_fault))]
+fn listed<A: Allocator + Copy>(
     alloc: A,
     grid: &Grid,
     bare: bool,
-    value: &Value<'_, A>,
-) -> Result<Geometry<A>, FeatureFault> {
-    let (whole, kind, listed) = if bare {
-        (Member::Text, Member::Type, Member::BareCoordinates)
-    } else {
-        (Member::Geometry, Member::GeometryType, Member::Coordinates)
+    kind: Kind,
+    value: Option<&Value<'_, A>>,
+) -> Result<Geometry<A>, FeatureFault>
+    ensures { Tells geometry_view result
+        (listed_in grid.now bare kind (option_map (λ v. value_view v.now) value.entry)) }
+{
+    let Some(value) = value else {
+        return Err(FeatureFault::at(coordinates_member(bare), Cause::Form));
     };
-    let Value::Object(_) = value else {
-        return Err(FeatureFault::at(whole, Cause::Form));
-    };
-    let Some(name) = text_of(value.get("type")) else {
-        return Err(FeatureFault::at(kind, Cause::Form));
-    };
-    let Some(found) = kind_of(name) else {
-        return Err(FeatureFault::at(kind, Cause::Kind));
-    };
-    let Some(given) = value.get("coordinates") else {
-        return Err(FeatureFault::at(listed, Cause::Form));
-    };
-    match coordinates(alloc, grid, found, given) {
+    match coordinates(alloc, grid, kind, value) {
         Ok(geometry) => Ok(geometry),
         Err(CoordinatesFault { cause, spot }) => Err(FeatureFault {
             cause,
-            member: listed,
+            member: coordinates_member(bare),
             spot,
         }),
     }
 }
 
-/// The text that a value is.
-fn text_of<'a, A: Allocator>(value: Option<&Value<'a, A>>) -> Option<&'a str> {
-    value?.as_str()
+/// A geometry.
+#[tactic(auto, unfolding(crate::specs::Given::geometry_in), using(crate::proofs::Told::exact_told))]
+fn geometry<A: Allocator + Copy>(
+    alloc: A,
+    grid: &Grid,
+    bare: bool,
+    value: &Value<'_, A>,
+) -> Result<Geometry<A>, FeatureFault>
+    ensures { Tells geometry_view result (geometry_in grid.now bare (value_view value.now)) }
+{
+    let kind = kind_in(bare, value)?;
+    listed(alloc, grid, bare, kind, value.get("coordinates"))
 }
 
 /// A member that may be missing or null.
-fn present<'v, 'a, A: Allocator>(value: Option<&'v Value<'a, A>>) -> Option<&'v Value<'a, A>> {
-    match value {
-        Some(Value::Null) => None,
-        other => other,
-    }
+fn present<'v, 'a, A: Allocator>(value: Option<&'v Value<'a, A>>) -> Option<&'v Value<'a, A>>
+    ensures { option_map (λ v. value_view v.now) result
+        ≡ present (option_map (λ v. value_view v.now) value.entry) }
+{
+    let value = value?;
+    if value.is_null() { None } else { Some(value) }
 }
 
 /// A whole number: digits, or a text of digits.
-fn whole_number<A: Allocator>(value: &Value<'_, A>) -> Option<u64> {
+fn whole_number<A: Allocator>(value: &Value<'_, A>) -> Option<u64>
+    ensures { result ≡ whole_number (value_view value.now) }
+{
     match value {
         Value::Number(text) | Value::String(text) => line_words::read_number(text.as_bytes()),
         _ => None,
     }
 }
 
+/// A name: a text that is one.
+fn name_in<A: Allocator>(value: &Value<'_, A>) -> Option<Name>
+    ensures { result ≡ name_in (value_view value.now) }
+{
+    Name::new(value.as_str()?.as_bytes())
+}
+
 /// A member that is a whole number, if it is there.
 fn number_member<A: Allocator>(
     value: Option<&Value<'_, A>>,
     member: Member,
-) -> Result<Option<u64>, FeatureFault> {
+) -> Result<Option<u64>, FeatureFault>
+    ensures { result ≡ number_member member (option_map (λ v. value_view v.now) value.entry) }
+{
     let Some(value) = present(value) else {
         return Ok(None);
     };
@@ -215,34 +272,60 @@ fn number_member<A: Allocator>(
 fn name_member<A: Allocator>(
     value: Option<&Value<'_, A>>,
     member: Member,
-) -> Result<Option<Name>, FeatureFault> {
+) -> Result<Option<Name>, FeatureFault>
+    ensures { result ≡ name_member member (option_map (λ v. value_view v.now) value.entry) }
+{
     let Some(value) = present(value) else {
         return Ok(None);
     };
-    let name = match value {
-        Value::String(text) => Name::new(text.as_bytes()),
-        _ => None,
-    };
-    match name {
+    match name_in(value) {
         Some(name) => Ok(Some(name)),
         None => Err(FeatureFault::at(member, Cause::Form)),
     }
 }
 
 /// A property of a feature.
-fn property<'v, 'a, A: Allocator>(
-    feature: &'v Value<'a, A>,
-    name: &str,
-) -> Option<&'v Value<'a, A>> {
+#[tactic(auto, unfolding(crate::specs::Given::property))]
+fn property<'v, 'a, A: Allocator>(feature: &'v Value<'a, A>, name: &str) -> Option<&'v Value<'a, A>>
+    ensures { option_map (λ v. value_view v.now) result
+        ≡ property name.now (value_view feature.now) }
+{
     feature.get("properties")?.get(name)
 }
 
 /// The id of a feature: its member, or else its property.
-fn id_of<A: Allocator>(feature: &Value<'_, A>) -> Result<Option<u64>, FeatureFault> {
+#[tactic(auto, unfolding(crate::specs::Given::id_in))]
+fn id_of<A: Allocator>(feature: &Value<'_, A>) -> Result<Option<u64>, FeatureFault>
+    ensures { result ≡ id_in (value_view feature.now) }
+{
     match number_member(feature.get("id"), Member::Id)? {
         Some(id) => Ok(Some(id)),
         None => number_member(property(feature, "id"), Member::PropertyId),
     }
+}
+
+/// The version of a feature.
+#[tactic(auto, unfolding(crate::specs::Given::version_in))]
+fn version_of<A: Allocator>(feature: &Value<'_, A>) -> Result<Option<u64>, FeatureFault>
+    ensures { result ≡ version_in (value_view feature.now) }
+{
+    number_member(property(feature, "version"), Member::Version)
+}
+
+/// The office of a feature.
+#[tactic(auto, unfolding(crate::specs::Given::office_in))]
+fn office_of<A: Allocator>(feature: &Value<'_, A>) -> Result<Option<Name>, FeatureFault>
+    ensures { result ≡ office_in (value_view feature.now) }
+{
+    name_member(property(feature, "office"), Member::Office)
+}
+
+/// The class of a feature.
+#[tactic(auto, unfolding(crate::specs::Given::class_in))]
+fn class_of<A: Allocator>(feature: &Value<'_, A>) -> Result<Option<Name>, FeatureFault>
+    ensures { result ≡ class_in (value_view feature.now) }
+{
+    name_member(property(feature, "class"), Member::Class)
 }
 
 /// What of a feature is looked at, beside its geometry. What is not has no fault.
@@ -256,56 +339,174 @@ pub struct Wished {
     pub others: bool,
 }
 
+/// What a feature says beside its geometry.
+#[derive(Drop)]
+struct Said {
+    id: Option<u64>,
+    version: Option<u64>,
+    office: Option<Name>,
+    class: Option<Name>,
+}
+
+/// The id, if it is wished.
+fn wished_id<A: Allocator>(
+    wished: bool,
+    feature: &Value<'_, A>,
+) -> Result<Option<u64>, FeatureFault>
+    ensures { result ≡ if_wished wished (id_in (value_view feature.now)) }
+{
+    if wished { id_of(feature) } else { Ok(None) }
+}
+
+/// The version, if it is wished.
+fn wished_version<A: Allocator>(
+    wished: bool,
+    feature: &Value<'_, A>,
+) -> Result<Option<u64>, FeatureFault>
+    ensures { result ≡ if_wished wished (version_in (value_view feature.now)) }
+{
+    if wished {
+        version_of(feature)
+    } else {
+        Ok(None)
+    }
+}
+
+/// The office, if it is wished.
+fn wished_office<A: Allocator>(
+    wished: bool,
+    feature: &Value<'_, A>,
+) -> Result<Option<Name>, FeatureFault>
+    ensures { result ≡ if_wished wished (office_in (value_view feature.now)) }
+{
+    if wished { office_of(feature) } else { Ok(None) }
+}
+
+/// The class, if it is wished.
+fn wished_class<A: Allocator>(
+    wished: bool,
+    feature: &Value<'_, A>,
+) -> Result<Option<Name>, FeatureFault>
+    ensures { result ≡ if_wished wished (class_in (value_view feature.now)) }
+{
+    if wished { class_of(feature) } else { Ok(None) }
+}
+
+/// What a feature says beside its geometry.
+#[tactic(auto, unfolding(crate::specs::Given::said_in))]
+fn said_in<A: Allocator>(wished: Wished, feature: &Value<'_, A>) -> Result<Said, FeatureFault>
+    ensures { result ≡ said_in wished (value_view feature.now) }
+{
+    let id = wished_id(wished.id, feature)?;
+    let version = wished_version(wished.others, feature)?;
+    let office = wished_office(wished.others, feature)?;
+    let class = wished_class(wished.class, feature)?;
+    Ok(Said {
+        id,
+        version,
+        office,
+        class,
+    })
+}
+
+/// The geometry of a feature.
+#[tactic(auto, unfolding(crate::specs::Given::geometry_of))]
+fn geometry_of<A: Allocator + Copy>(
+    alloc: A,
+    grid: &Grid,
+    feature: &Value<'_, A>,
+) -> Result<Geometry<A>, FeatureFault>
+    ensures { Tells geometry_view result (geometry_of grid.now (value_view feature.now)) }
+{
+    match feature.get("geometry") {
+        Some(value) => geometry(alloc, grid, false, value),
+        None => Err(FeatureFault::at(Member::Geometry, Cause::Form)),
+    }
+}
+
+/// What is said beside a geometry, with the geometry.
+fn with_geometry<A: Allocator>(said: Said, geometry: Geometry<A>) -> Given<A>
+    ensures { Ok (given_view result) ≡ with_paths said (Ok (geometry_view geometry)) }
+{
+    Given {
+        id: said.id,
+        version: said.version,
+        office: said.office,
+        class: said.class,
+        geometry,
+    }
+}
+
 /// A feature.
+#[tactic(auto, using(crate::proofs::Told::exact_told, crate::proofs::Told::feature_fault))]
 fn feature<A: Allocator + Copy>(
     alloc: A,
     grid: &Grid,
     wished: Wished,
     value: &Value<'_, A>,
-) -> Result<Given<A>, FeatureFault> {
-    let id = if wished.id { id_of(value)? } else { None };
-    let (version, office) = if wished.others {
-        (
-            number_member(property(value, "version"), Member::Version)?,
-            name_member(property(value, "office"), Member::Office)?,
-        )
-    } else {
-        (None, None)
-    };
-    let class = if wished.class {
-        name_member(property(value, "class"), Member::Class)?
-    } else {
-        None
-    };
-    let Some(given) = value.get("geometry") else {
-        return Err(FeatureFault::at(Member::Geometry, Cause::Form));
-    };
-    Ok(Given {
-        id,
-        version,
-        office,
-        class,
-        geometry: geometry(alloc, grid, false, given)?,
-    })
+) -> Result<Given<A>, FeatureFault>
+    ensures { Tells given_view result (whole_feature grid.now wished (value_view value.now)) }
+{
+    let said = said_in(wished, value)?;
+    let geometry = geometry_of(alloc, grid, value)?;
+    Ok(with_geometry(said, geometry))
 }
 
-/// A feature, or a geometry by itself.
-fn whole<A: Allocator + Copy>(
+/// A geometry by itself.
+#[tactic(auto, using(crate::proofs::Told::bare_fault))]
+fn bare_geometry<A: Allocator + Copy>(
     alloc: A,
     grid: &Grid,
-    wished: Wished,
     value: &Value<'_, A>,
-) -> Result<Given<A>, FeatureFault> {
-    if text_of(value.get("type")) == Some("Feature") {
-        return feature(alloc, grid, wished, value);
-    }
+) -> Result<Given<A>, FeatureFault>
+    ensures { Tells given_view result (bare_in grid.now (value_view value.now)) }
+{
+    let geometry = geometry(alloc, grid, true, value)?;
     Ok(Given {
         id: None,
         version: None,
         office: None,
         class: None,
-        geometry: geometry(alloc, grid, true, value)?,
+        geometry,
     })
+}
+
+/// Whether a value says that it is a feature.
+#[tactic(auto, unfolding(crate::specs::Given::is_feature))]
+fn is_feature<A: Allocator>(value: &Value<'_, A>) -> bool
+    ensures { result ≡ is_feature (value_view value.now) }
+{
+    match type_name(value) {
+        Some(name) => name == "Feature",
+        None => false,
+    }
+}
+
+/// A feature, or a geometry by itself.
+#[tactic(auto, unfolding(crate::specs::Given::feature_in))]
+fn whole<A: Allocator + Copy>(
+    alloc: A,
+    grid: &Grid,
+    wished: Wished,
+    value: &Value<'_, A>,
+) -> Result<Given<A>, FeatureFault>
+    ensures { Tells given_view result (feature_in grid.now wished (value_view value.now)) }
+{
+    if is_feature(value) {
+        feature(alloc, grid, wished, value)
+    } else {
+        bare_geometry(alloc, grid, value)
+    }
+}
+
+/// Why the reader of JSON read no value.
+fn unread(error: Error) -> Cause
+    ensures { result ≡ unread_cause error }
+{
+    match error {
+        Error::OutOfMemory => Cause::Json(JsonRefused::seen()),
+        Error::Invalid | Error::TooLong | Error::DuplicateKey => Cause::NotJson,
+    }
 }
 
 /// Reads what a text says of a feature: a Feature (RFC 7946, 3.2), or a geometry by itself (3.1).
@@ -319,7 +520,9 @@ pub fn read_feature<A: Allocator + Copy>(
     alloc: A,
     grid: &Grid,
     text: &[u8],
-) -> Result<Given<A>, FeatureFault> {
+) -> Result<Given<A>, FeatureFault>
+    ensures { Reads grid.now all_wished text.now result }
+{
     let all = Wished {
         id: true,
         class: true,
@@ -335,14 +538,12 @@ pub fn read_wished<A: Allocator + Copy>(
     grid: &Grid,
     wished: Wished,
     text: &[u8],
-) -> Result<Given<A>, FeatureFault> {
+) -> Result<Given<A>, FeatureFault>
+    ensures { Reads grid.now wished text.now result }
+{
     let mut scratch = Scratch::new(alloc);
     match Value::from_slice(alloc, text, &mut scratch) {
         Ok(value) => whole(alloc, grid, wished, &value),
-        Err(Error::OutOfMemory) => Err(FeatureFault::at(
-            Member::Text,
-            Cause::Json(JsonRefused::seen()),
-        )),
-        Err(_) => Err(FeatureFault::at(Member::Text, Cause::NotJson)),
+        Err(error) => Err(FeatureFault::at(Member::Text, unread(error))),
     }
 }

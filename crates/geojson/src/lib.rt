@@ -5,6 +5,7 @@ mod faults;
 mod geometries;
 mod given;
 mod laws;
+mod polygons;
 mod reading;
 mod texts;
 

@@ -4,7 +4,7 @@ ghost use Rattle.std.specs.Prelude.{◌≡◌, map};
 ghost use Rattle.json.specs.Value.{value_view, items_view};
 ghost use Rattle.geojson.specs.Faults.{Gives, at_axis};
 ghost use Rattle.geojson.specs.Paths.{path_view};
-ghost use Rattle.geojson.specs.Reading.{coordinate_in, position_in, point_at, list_from, points_in, path_at, paths_in, role_at};
+ghost use Rattle.geojson.specs.Reading.{coordinate_in, position_in, point_at, list_from, points_in, path_at, paths_in, role_at, with_all};
 
 use crate::faults::{Cause, CoordinatesFault};
 use crate::geometries::{Layout, Path, Role};
@@ -139,6 +139,7 @@ fn path_at<A: Allocator + Copy>(
 }
 
 /// The paths of an array of arrays of positions.
+#[tactic(auto, using(crate::proofs::Lists::none_told))]
 pub(crate) fn paths<A: Allocator + Copy>(
     alloc: A,
     grid: &Grid,
@@ -148,28 +149,47 @@ pub(crate) fn paths<A: Allocator + Copy>(
     ensures { Gives (λ paths. map path_view paths.items) result
         (paths_in grid.now layout (value_view value.now)) }
 {
+    let mut all = Vec::new(alloc);
+    match put_paths(alloc, grid, layout, value, &mut all) {
+        Ok(()) => Ok(all),
+        Err(fault) => Err(fault),
+    }
+}
+
+/// Appends the paths of an array of arrays of positions.
+pub(crate) fn put_paths<A: Allocator + Copy>(
+    alloc: A,
+    grid: &Grid,
+    layout: Layout,
+    value: &Value<'_, A>,
+    all: &mut Vec<Path<A>, A>,
+) -> Result<(), CoordinatesFault>
+    ensures { Gives (λ _. map path_view all.new.items) result
+        (with_all (map path_view all.old.items) (paths_in grid.now layout (value_view value.now))) }
+{
     let Value::Array(items) = value else {
         return Err(CoordinatesFault::here(Cause::Form));
     };
-    paths_of(alloc, grid, layout, items.as_slice())
+    put_each_path(alloc, grid, layout, items.as_slice(), all)
 }
 
-/// The paths of arrays of positions.
-fn paths_of<A: Allocator + Copy>(
+/// Appends the paths of arrays of positions.
+fn put_each_path<A: Allocator + Copy>(
     alloc: A,
     grid: &Grid,
     layout: Layout,
     items: &[Value<'_, A>],
-) -> Result<Vec<Path<A>, A>, CoordinatesFault>
-    ensures { Gives (λ paths. map path_view paths.items) result
-        (list_from (path_at grid.now layout) 0 (items_view items.now)) }
+    all: &mut Vec<Path<A>, A>,
+) -> Result<(), CoordinatesFault>
+    ensures { Gives (λ _. map path_view all.new.items) result
+        (with_all (map path_view all.old.items)
+        (list_from (path_at grid.now layout) 0 (items_view items.now))) }
 {
-    let mut paths = Vec::new(alloc);
     for (index, item) in items.iter().enumerate() {
         match path_at(alloc, grid, layout, item, index) {
-            Ok(path) => paths.try_push(path)?,
+            Ok(path) => all.try_push(path)?,
             Err(fault) => return Err(fault),
         }
     }
-    Ok(paths)
+    Ok(())
 }

@@ -1,7 +1,6 @@
 use Rattle.std.proofs.Common.{◌≡◌, drop}
 use Rattle.json.specs.Value.{items_view}
-use Rattle.geojson.specs.Reading.{point_at, list_from}
-use Rattle.geojson.proofs.Lists.{with_all}
+use Rattle.geojson.specs.Reading.{point_at, list_from, with_all}
 use Rattle.geojson.proofs.reading.points_of.Given as goal
 
 abbrev pub invariant-loop-index : goal.invariant-loop-index
