@@ -59,8 +59,11 @@ pub enum Ask {
 
 /// The page that a path names.
 #[derive(Clone, Copy, Debug)]
-pub(crate) enum Page {
+pub enum Page {
+    /// A page that is the same whatever the map has.
     Fixed(FixedPage),
+    /// `/collections/C/items`.
     Items(Layer),
+    /// `/collections/C/items/ID`.
     Item(Layer, u64),
 }

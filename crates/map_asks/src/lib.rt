@@ -12,8 +12,9 @@ mod queries;
 mod reading;
 mod windows;
 
-pub use asks::{Ask, FixedPage, Items, Layer, Source};
+pub use asks::{Ask, FixedPage, Items, Layer, Page, Source};
 pub use faults::{AskFault, Parameter};
-pub use queries::{DEFAULT_LIMIT, MOST_LIMIT, VALUE_LIMIT};
+pub use pages::page_of;
+pub use queries::{DEFAULT_LIMIT, MOST_LIMIT, VALUE_LIMIT, is_empty as is_empty_query};
 pub use reading::read_ask;
 pub use windows::{Window, everywhere};

@@ -60,7 +60,7 @@ fn collection_page(classes: &[Name], text: &[u8]) -> Option<Page>
 /// The page that a path names, where these classes are collections. Nothing in a path is decoded:
 /// no page has a name with an escape.
 #[tactic(auto, unfolding(crate::specs::Pages::page_of))]
-pub(crate) fn page_of(classes: &[Name], path: &[u8]) -> Option<Page>
+pub fn page_of(classes: &[Name], path: &[u8]) -> Option<Page>
     ensures { result ≡ page_of classes.now path.now }
 {
     if path == b"/".as_slice() {

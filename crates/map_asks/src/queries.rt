@@ -260,7 +260,7 @@ pub(crate) fn read_items(grid: &Grid, query: &[u8]) -> Result<Items, AskFault>
 }
 
 /// Whether a query has no parameters.
-pub(crate) fn is_empty(query: &[u8]) -> bool
+pub fn is_empty(query: &[u8]) -> bool
     ensures { result ≡ is_empty_query query.now }
 {
     raw_pairs(query).next().is_none()

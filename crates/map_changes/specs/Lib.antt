@@ -1,0 +1,10 @@
+pub mod Faults
+pub mod FaultCodes
+pub mod Requests
+pub mod Targets
+pub mod Tags
+pub mod Media
+pub mod Paths
+pub mod Shapes
+pub mod Givens
+pub mod Changing
