@@ -1,5 +1,6 @@
 -- Answers, as plain data.
-use Rattle.std.specs.Prelude.{ℕ, List, Option, None, codes}
+use Rattle.std.specs.Prelude.{ℕ, List, Option, None, option_map, Result, Ok, Err, codes}
+use Rattle.memory.specs.declared.no_memory.NoMemory.{NoMemory}
 use Rattle.map_answers.specs.declared.answers.Answer.{Answer}
 use Rattle.map_answers.specs.declared.answers.MediaType.{MediaType}
 use Rattle.map_answers.specs.declared.answers.MediaType.TheVariants.{Json, GeoJson, OpenApi, Html, Problem}
@@ -18,6 +19,7 @@ pub record AnswerData : Type 0 where
   pub status : Status
   pub media : MediaType
   pub version : Option ℕ
+  pub location : Option (List ℕ)
   pub retry_after : Option ℕ
   pub body : List ℕ
 
@@ -26,6 +28,7 @@ answer_data answer = record {
   status = answer.status;
   media = answer.media;
   version = answer.version;
+  location = option_map (λ address. address.items) answer.location;
   retry_after = answer.retry_after;
   body = answer.body.items;
 }
@@ -36,6 +39,12 @@ found media body = record {
   status = Success;
   media = media;
   version = None;
+  location = None;
   retry_after = None;
   body = body;
 }
+
+-- what a client sees of it, if there was memory for it
+abbrev pub answered : {A : Type 0} → Result (Answer A) NoMemory → Result AnswerData NoMemory
+answered (Ok answer) = Ok (answer_data answer)
+answered (Err refused) = Err refused

@@ -32,6 +32,7 @@ feature_data known feature text = record {
   status = if is_known known feature.version then NotModified else Success;
   media = GeoJson;
   version = Some feature.version;
+  location = None;
   retry_after = None;
   body = if is_known known feature.version then [] else text;
 }

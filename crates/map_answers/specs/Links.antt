@@ -43,6 +43,13 @@ limit_part limit = codes "&limit=" ++ decimal limit
 abbrev pub collection_address : List ℕ → Layer → List ℕ
 collection_address base layer = base ++ collections_path ++ layer_name layer
 
+unfoldable pub item_part : ℕ → List ℕ
+item_part id = codes "/items/" ++ decimal id
+
+-- where a feature of a collection is
+abbrev pub item_address : List ℕ → Layer → ℕ → List ℕ
+item_address base layer id = collection_address base layer ++ item_part id
+
 -- where a further page is: what is behind an id, of a kept answer
 abbrev pub next_address : List ℕ → Layer → ℕ → ℕ → ℕ → List ℕ
 next_address base layer kept after limit =

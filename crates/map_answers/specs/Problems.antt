@@ -38,6 +38,23 @@ problem_data status code retry_after = record {
   status = status;
   media = Problem;
   version = None;
+  location = None;
   retry_after = retry_after;
   body = problem_text status code;
+}
+
+-- a problem with more members (3.2), each behind a comma
+abbrev pub detailed_text : Status → List ℕ → List ℕ → List ℕ
+detailed_text status code members =
+    title_part status ++ status_part status ++ code_part code ++ members ++ codes "}"
+
+-- the answer that tells of it
+abbrev pub detailed_data : Status → List ℕ → List ℕ → AnswerData
+detailed_data status code members = record {
+  status = status;
+  media = Problem;
+  version = None;
+  location = None;
+  retry_after = None;
+  body = detailed_text status code members;
 }

@@ -45,6 +45,8 @@ pub struct Answer<A: Allocator> {
     pub media: MediaType,
     /// The version of the feature, which is its entity tag.
     pub version: Option<u64>,
+    /// The address of a feature that was added.
+    pub location: Option<Vec<u8, A>>,
     /// In how many seconds the client may try again.
     pub retry_after: Option<u64>,
     pub body: Vec<u8, A>,

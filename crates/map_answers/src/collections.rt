@@ -175,6 +175,7 @@ pub fn page_answer<A: Allocator + Copy>(
         status: Status::Success,
         media: MediaType::GeoJson,
         version: None,
+        location: None,
         retry_after: None,
         body,
     })

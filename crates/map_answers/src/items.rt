@@ -104,6 +104,7 @@ pub fn feature_answer<A: Allocator + Copy>(
         status,
         media: MediaType::GeoJson,
         version: Some(feature.version),
+        location: None,
         retry_after: None,
         body,
     })

@@ -1,7 +1,7 @@
 //! Links.
 
 ghost use Rattle.std.specs.Prelude.{◌≡◌, ◌++◌, IfOk, OnOk, codes};
-ghost use Rattle.map_answers.specs.Links.{after_part, collection_address, collections_path, href_part, kept_part, layer_name, limit_part, link_text, next_address, relation_part, type_part};
+ghost use Rattle.map_answers.specs.Links.{after_part, collection_address, collections_path, href_part, item_address, item_part, kept_part, layer_name, limit_part, link_text, next_address, relation_part, type_part};
 
 use crate::answers::MediaType;
 use crate::texts::{put, put_number, put_string};
@@ -103,6 +103,28 @@ pub fn collection_address<A: Allocator>(
     put(&mut address, base)?;
     put_collections_path(&mut address)?;
     put(&mut address, layer_name(layer))?;
+    Ok(address)
+}
+
+#[tactic(auto, unfolding(crate::specs::Links::item_part))]
+fn put_item_part<A: Allocator>(text: &mut Vec<u8, A>, id: u64) -> Result<(), NoMemory>
+    ensures { OnOk result (text.new.items ≡ text.old.items ++ item_part id) }
+{
+    put(text, b"/items/")?;
+    put_number(text, id)
+}
+
+/// The address of a feature of a collection, where links begin with this base.
+pub fn item_address<A: Allocator>(
+    alloc: A,
+    base: &[u8],
+    layer: &Layer,
+    id: u64,
+) -> Result<Vec<u8, A>, NoMemory>
+    ensures { IfOk result (λ made. made.items ≡ item_address base.now layer.now id) }
+{
+    let mut address = collection_address(alloc, base, layer)?;
+    put_item_part(&mut address, id)?;
     Ok(address)
 }
 

@@ -3,7 +3,7 @@
 ghost use Rattle.std.specs.Prelude.{◌≡◌, ◌++◌, IfOk, OnOk, decimal};
 ghost use Rattle.map_answers.specs.Answers.{answer_data};
 ghost use Rattle.map_asks.specs.FaultCodes.{code_of};
-ghost use Rattle.map_answers.specs.Problems.{code_part, problem_data, problem_text, status_of_fault, status_part, title_part};
+ghost use Rattle.map_answers.specs.Problems.{code_part, detailed_data, detailed_text, problem_data, problem_text, status_of_fault, status_part, title_part};
 
 use crate::answers::{Answer, MediaType};
 use crate::statuses::Status;
@@ -94,7 +94,48 @@ pub fn problem_answer<A: Allocator>(alloc: A, problem: &Problem) -> Result<Answe
         status: problem.status,
         media: MediaType::Problem,
         version: None,
+        location: None,
         retry_after: problem.retry_after,
+        body,
+    })
+}
+
+/// Appends the text of a problem with more members.
+fn put_detailed<A: Allocator>(
+    text: &mut Vec<u8, A>,
+    status: Status,
+    code: &str,
+    members: &[u8],
+) -> Result<(), NoMemory>
+    ensures { OnOk result
+        (text.new.items ≡ text.old.items ++ detailed_text status code.now members.now) }
+{
+    put_title(text, status)?;
+    put_status(text, status)?;
+    put_code(text, code)?;
+    put(text, members)?;
+    put(text, b"}")
+}
+
+/// The answer that tells of a problem with more members, each written behind a comma:
+/// `,"current":3`.
+pub fn detailed_answer<A: Allocator>(
+    alloc: A,
+    status: Status,
+    code: &str,
+    members: &[u8],
+) -> Result<Answer<A>, NoMemory>
+    ensures { IfOk result
+        (λ answer. answer_data answer ≡ detailed_data status code.now members.now) }
+{
+    let mut body = Vec::new(alloc);
+    put_detailed(&mut body, status, code, members)?;
+    Ok(Answer {
+        status,
+        media: MediaType::Problem,
+        version: None,
+        location: None,
+        retry_after: None,
         body,
     })
 }

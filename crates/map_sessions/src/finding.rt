@@ -51,7 +51,7 @@ fn begin_anew<S: Service>(service: &mut S, asker: &Name) -> Result<(), Refusal>
 /// Has the session ask for a subject: it begins where it has not begun, stays where it asks for them
 /// already, and ends first where it asks for somebody else. Refused by what the session says in
 /// place of `hello`, or of `bye`.
-fn greet<S: Service>(service: &mut S, asker: &Name) -> Result<(), Refusal>
+pub fn greet<S: Service>(service: &mut S, asker: &Name) -> Result<(), Refusal>
     ensures { Greets S.subject_of S.serves asker.now service.old service.new result }
 {
     let Some(subject) = service.subject() else {

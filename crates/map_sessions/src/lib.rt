@@ -7,6 +7,7 @@ mod kept;
 mod refusals;
 mod visits;
 
+pub use finding::greet;
 pub use kept::{KEPT_LIMIT, KEPT_ROWS_LIMIT, Kept};
 pub use refusals::{Refusal, problem_of};
-pub use visits::{Host, Visit, answer_visit};
+pub use visits::{Host, Visit, answer_visit, unasked};

@@ -54,7 +54,7 @@ impl Host<'_> {
 }
 
 /// Why those get nothing who do not say who they are.
-fn unasked(host: &Host) -> Refusal
+pub fn unasked(host: &Host) -> Refusal
     ensures { result ≡ unasked (place_of host.now) }
 {
     if host.is_keyed() {

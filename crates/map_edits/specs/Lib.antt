@@ -1,0 +1,4 @@
+pub mod Committing
+pub mod Members
+pub mod Telling
+pub mod Editing
