@@ -2,7 +2,6 @@
 use Rattle.std.specs.Prelude.{ℕ, List, Option}
 use Rattle.std.specs.declared.alloc.Global.{Global}
 use Rattle.http.specs.declared.request.Request.{Request}
-use Rattle.http.specs.Request.{head_of}
 use Rattle.http_server.specs.declared.response.Response.{Response}
 use Rattle.features.specs.declared.actors.Subject.{Subject}
 use Rattle.session_lines.specs.Replies.{SaidData}
@@ -16,4 +15,4 @@ abbrev pub AnswersAtCounter : {S : Type 0} → (S → Option Subject) → (Call 
     → Type 0) → Place → Request (List ℕ) → S → S → Response → Type 0
 AnswersAtCounter subject_of serves place request served after response =
     (kept : Kept Global) × (left : Kept Global)
-    × AnswersRequest subject_of serves place (head_of request) served after kept left response
+    × AnswersRequest subject_of serves place request served after kept left response

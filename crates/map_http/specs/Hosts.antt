@@ -58,7 +58,35 @@ abbrev pub authority_or_host : Option (List ℕ) → Option FieldValue → Optio
 authority_or_host (Some authority) host = Some authority
 authority_or_host None host = option_map (λ value. value.bytes) host
 
+-- for which host a request is
+abbrev pub authority_of : Parts → Option (List ℕ)
+authority_of head = authority_or_host (uri_authority head.uri) (get head.headers (codes "host"))
+
 -- a request is for the server of this address
 abbrev pub is_for : List ℕ → Parts → Bool
-is_for base head =
-    is_own_if_some base (authority_or_host (uri_authority head.uri) (get head.headers (codes "host")))
+is_for base head = is_own_if_some base (authority_of head)
+
+-- the authority of an origin (RFC 6454, 6.1)
+abbrev pub origin_authority : List ℕ → Option (List ℕ)
+origin_authority origin =
+    if starts_with nat_eq origin (codes "http://") then Some (drop 7 origin)
+    else if starts_with nat_eq origin (codes "https://") then Some (drop 8 origin)
+    else None
+
+abbrev pub is_same : List ℕ → Option (List ℕ) → Bool
+is_same authority None = false
+is_same authority (Some own) = str_eq_ignore_ascii_case authority own
+
+-- an origin's authority is that of the server's address, or the one that the request is for
+abbrev pub is_near : List ℕ → Parts → Option (List ℕ) → Bool
+is_near base head None = false
+is_near base head (Some authority) =
+    is_authority_of base authority || is_same authority (authority_of head)
+
+abbrev pub is_near_if_some : List ℕ → Parts → Option FieldValue → Bool
+is_near_if_some base head None = true
+is_near_if_some base head (Some origin) = is_near base head (origin_authority origin.bytes)
+
+-- a request comes from no page of somebody else (RFC 6454, 7.3)
+abbrev pub is_from_here : List ℕ → Parts → Bool
+is_from_here base head = is_near_if_some base head (get head.headers (codes "origin"))

@@ -4,13 +4,14 @@ use Rattle.http1.specs.Fields.{Header}
 use Rattle.http_server.specs.Response.{IsResponse}
 use Rattle.http_server.specs.declared.response.Response.{Response}
 use Rattle.memory.specs.declared.no_memory.NoMemory.{NoMemory}
-use Rattle.map_answers.specs.Answers.{AnswerData, answer_data, media_text}
+use Rattle.map_answers.specs.Answers.{AnswerData, media_text}
 use Rattle.map_answers.specs.Matching.{tag_text}
 use Rattle.map_answers.specs.Statuses.{number_of}
-use Rattle.map_answers.specs.declared.answers.Answer.{Answer}
 use Rattle.map_answers.specs.declared.answers.MediaType.{MediaType}
 use Rattle.map_answers.specs.declared.statuses.Status.{Status}
 use Rattle.map_answers.specs.declared.statuses.Status.TheVariants.{MethodNotAllowed, Unauthorized}
+use Rattle.map_changes.specs.declared.paths.Methods.{Methods}
+use Rattle.map_changes.specs.declared.paths.Methods.TheVariants.{Read, Add, Edit}
 use Rattle.map_http.specs.declared.askers.Way.{Way}
 use Rattle.map_http.specs.declared.askers.Way.TheVariants.{Nothing, Secret, Proxy}
 
@@ -29,13 +30,30 @@ abbrev pub retry_fields : Option ℕ → List Header
 retry_fields None = []
 retry_fields (Some seconds) = (codes "retry-after", decimal seconds) ∷ []
 
-unfoldable pub methods_text : List ℕ
-methods_text = codes "GET, HEAD"
+-- the address of a feature that was added (10.2.2)
+abbrev pub location_fields : Option (List ℕ) → List Header
+location_fields None = []
+location_fields (Some address) = (codes "location", address) ∷ []
+
+unfoldable pub read_methods : List ℕ
+read_methods = codes "GET, HEAD"
+
+unfoldable pub add_methods : List ℕ
+add_methods = codes "GET, HEAD, POST"
+
+unfoldable pub edit_methods : List ℕ
+edit_methods = codes "GET, HEAD, PUT, PATCH, DELETE"
+
+-- which methods a page has
+abbrev pub methods_text : Methods → List ℕ
+methods_text Read = read_methods
+methods_text Add = add_methods
+methods_text Edit = edit_methods
 
 -- which methods there are, where another one was asked for (15.5.6)
-abbrev pub allow_fields : Status → List Header
-allow_fields MethodNotAllowed = (codes "allow", methods_text) ∷ []
-allow_fields _ = []
+abbrev pub allow_fields : Methods → Status → List Header
+allow_fields methods MethodNotAllowed = (codes "allow", methods_text methods) ∷ []
+allow_fields methods _ = []
 
 unfoldable pub challenge_text : List ℕ
 challenge_text = codes "Basic realm=\"landmap\", charset=\"UTF-8\""
@@ -69,34 +87,36 @@ own_fields Proxy = own_fields_by proxy_field
 abbrev pub sniff_fields : List Header
 sniff_fields = (codes "x-content-type-options", codes "nosniff") ∷ []
 
--- what an answer says of itself
-abbrev pub content_fields : AnswerData → List Header
-content_fields answer =
+-- what an answer says of what it is
+abbrev pub entity_fields : AnswerData → List Header
+entity_fields answer =
     media_fields answer.media (length answer.body) ++ tag_fields answer.version
-    ++ retry_fields answer.retry_after ++ allow_fields answer.status
+    ++ location_fields answer.location
+
+-- what it says of itself
+abbrev pub content_fields : Methods → AnswerData → List Header
+content_fields methods answer =
+    entity_fields answer ++ retry_fields answer.retry_after ++ allow_fields methods answer.status
 
 -- what it says of who asks, where it is said in one way who asks
 abbrev pub asker_fields : Way → Status → List Header
 asker_fields way status = challenge_fields status ++ own_fields way ++ sniff_fields
 
 -- the fields of an answer
-abbrev pub answer_fields : Way → AnswerData → List Header
-answer_fields way answer = content_fields answer ++ asker_fields way answer.status
+abbrev pub answer_fields : Way → Methods → AnswerData → List Header
+answer_fields way methods answer =
+    content_fields methods answer ++ asker_fields way answer.status
 
 -- the response has the status, the fields and the body of the answer
-abbrev pub Tells : Way → AnswerData → Response → Type 0
-Tells way answer response =
-    IsResponse (number_of answer.status) (answer_fields way answer) answer.body response
+abbrev pub Tells : Way → Methods → AnswerData → Response → Type 0
+Tells way methods answer response =
+    IsResponse (number_of answer.status) (answer_fields way methods answer) answer.body response
 
 -- the response says no more than that there was no room for it
 abbrev pub HasNoRoom : Response → Type 0
 HasNoRoom response = IsResponse 503 [] [] response
 
-abbrev pub outcome_of : {A : Type 0} → Result (Answer A) NoMemory → Result AnswerData NoMemory
-outcome_of (Ok answer) = Ok (answer_data answer)
-outcome_of (Err refused) = Err refused
-
 -- the response tells of the answer, if there was one, or that there was no room
-abbrev pub Told : Way → Result AnswerData NoMemory → Response → Type 0
-Told way (Ok answer) response = Tells way answer response ⊎ HasNoRoom response
-Told way (Err refused) response = HasNoRoom response
+abbrev pub Told : Way → Methods → Result AnswerData NoMemory → Response → Type 0
+Told way methods (Ok answer) response = Tells way methods answer response ⊎ HasNoRoom response
+Told way methods (Err refused) response = HasNoRoom response

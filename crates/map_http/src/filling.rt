@@ -1,15 +1,16 @@
 //! Answers as responses of HTTP.
 
-ghost use Rattle.std.specs.Prelude.{◌≡◌, ◌++◌, OnOk};
+ghost use Rattle.std.specs.Prelude.{◌≡◌, ◌++◌, OnOk, option_map};
 ghost use Rattle.http_server.specs.Response.{IsBlank, fields_of};
-ghost use Rattle.map_answers.specs.Answers.{answer_data, media_text};
-ghost use Rattle.map_http.specs.Responses.{HasNoRoom, Tells, Told, allow_fields, answer_fields, asker_fields, challenge_fields, challenge_text, content_fields, media_fields, methods_text, outcome_of, own_fields, own_fields_by, private_text, proxy_field, retry_fields, secret_field, sniff_fields, tag_fields};
+ghost use Rattle.map_answers.specs.Answers.{answer_data, answered, media_text};
+ghost use Rattle.map_http.specs.Responses.{HasNoRoom, Tells, Told, add_methods, allow_fields, answer_fields, asker_fields, challenge_fields, challenge_text, content_fields, edit_methods, entity_fields, location_fields, media_fields, methods_text, own_fields, own_fields_by, private_text, proxy_field, read_methods, retry_fields, secret_field, sniff_fields, tag_fields};
 
 use crate::askers::Way;
 use bytes::Bytes;
 use http::{HeaderValue, StatusCode, header};
 use http_server::Response;
 use map_answers::{Answer, MediaType, Status, tag_of};
+use map_changes::Methods;
 use memory::NoMemory;
 use std::alloc::Global;
 
@@ -79,24 +80,74 @@ fn add_retry(response: &mut Response, heap: Global, seconds: Option<u64>) -> Res
     }
 }
 
-/// The methods that there are.
-#[tactic(auto, unfolding(crate::specs::Responses::methods_text))]
-fn methods_value() -> HeaderValue
-    ensures { result.bytes ≡ methods_text }
+/// Adds the address of a feature that was added.
+fn add_location(
+    response: &mut Response,
+    heap: Global,
+    address: &Option<Vec<u8>>,
+) -> Result<(), Unfilled>
+    ensures fields { OnOk result (fields_of response.new
+        ≡ fields_of response.old ++ location_fields (option_map (λ a. a.items) address.now)) }
+    ensures status { response.new.status ≡ response.old.status }
+    ensures body { response.new.body ≡ response.old.body }
+{
+    let Some(address) = address else {
+        return Ok(());
+    };
+    let Ok(value) = HeaderValue::from_bytes(heap, address.as_slice()) else {
+        return Err(Unfilled);
+    };
+    match response.add_header(header::LOCATION, value) {
+        Ok(()) => Ok(()),
+        Err(_) => Err(Unfilled),
+    }
+}
+
+/// The methods of a page that is only read.
+#[tactic(auto, unfolding(crate::specs::Responses::read_methods))]
+fn read_methods() -> HeaderValue
+    ensures { result.bytes ≡ read_methods }
 {
     HeaderValue::from_static("GET, HEAD")
 }
 
+/// The methods of a page to which features are added.
+#[tactic(auto, unfolding(crate::specs::Responses::add_methods))]
+fn add_methods() -> HeaderValue
+    ensures { result.bytes ≡ add_methods }
+{
+    HeaderValue::from_static("GET, HEAD, POST")
+}
+
+/// The methods of a feature that may be changed.
+#[tactic(auto, unfolding(crate::specs::Responses::edit_methods))]
+fn edit_methods() -> HeaderValue
+    ensures { result.bytes ≡ edit_methods }
+{
+    HeaderValue::from_static("GET, HEAD, PUT, PATCH, DELETE")
+}
+
+/// The methods that a page has.
+fn methods_value(methods: Methods) -> HeaderValue
+    ensures { result.bytes ≡ methods_text methods }
+{
+    match methods {
+        Methods::Read => read_methods(),
+        Methods::Add => add_methods(),
+        Methods::Edit => edit_methods(),
+    }
+}
+
 /// Adds which methods there are, where another one was asked for.
-fn add_allow(response: &mut Response, status: Status) -> Result<(), Unfilled>
+fn add_allow(response: &mut Response, methods: Methods, status: Status) -> Result<(), Unfilled>
     ensures fields { OnOk result
-        (fields_of response.new ≡ fields_of response.old ++ allow_fields status) }
+        (fields_of response.new ≡ fields_of response.old ++ allow_fields methods status) }
     ensures status { response.new.status ≡ response.old.status }
     ensures body { response.new.body ≡ response.old.body }
 {
     match status {
         Status::MethodNotAllowed => {
-            match response.add_header(header::ALLOW, methods_value()) {
+            match response.add_header(header::ALLOW, methods_value(methods)) {
                 Ok(()) => Ok(()),
                 Err(_) => Err(Unfilled),
             }
@@ -199,21 +250,37 @@ fn add_sniff(response: &mut Response) -> Result<(), Unfilled>
     }
 }
 
-/// Adds what an answer says of itself.
-fn add_content_fields(
+/// Adds what an answer says of what it is.
+fn add_entity_fields(
     response: &mut Response,
     heap: Global,
     answer: &Answer<Global>,
 ) -> Result<(), Unfilled>
     ensures fields { OnOk result (fields_of response.new
-        ≡ fields_of response.old ++ content_fields (answer_data answer.now)) }
+        ≡ fields_of response.old ++ entity_fields (answer_data answer.now)) }
     ensures status { response.new.status ≡ response.old.status }
     ensures body { response.new.body ≡ response.old.body }
 {
     add_media(response, answer.media, answer.body.len())?;
     add_tag(response, heap, answer.version)?;
+    add_location(response, heap, &answer.location)
+}
+
+/// Adds what an answer says of itself.
+fn add_content_fields(
+    response: &mut Response,
+    heap: Global,
+    methods: Methods,
+    answer: &Answer<Global>,
+) -> Result<(), Unfilled>
+    ensures fields { OnOk result (fields_of response.new
+        ≡ fields_of response.old ++ content_fields methods (answer_data answer.now)) }
+    ensures status { response.new.status ≡ response.old.status }
+    ensures body { response.new.body ≡ response.old.body }
+{
+    add_entity_fields(response, heap, answer)?;
     add_retry(response, heap, answer.retry_after)?;
-    add_allow(response, answer.status)
+    add_allow(response, methods, answer.status)
 }
 
 /// Adds what an answer says of who asks, where it is said in one way who asks.
@@ -233,14 +300,15 @@ fn add_fields(
     response: &mut Response,
     heap: Global,
     way: Way,
+    methods: Methods,
     answer: &Answer<Global>,
 ) -> Result<(), Unfilled>
     ensures fields { OnOk result (fields_of response.new
-        ≡ fields_of response.old ++ answer_fields way (answer_data answer.now)) }
+        ≡ fields_of response.old ++ answer_fields way methods (answer_data answer.now)) }
     ensures status { response.new.status ≡ response.old.status }
     ensures body { response.new.body ≡ response.old.body }
 {
-    add_content_fields(response, heap, answer)?;
+    add_content_fields(response, heap, methods, answer)?;
     add_asker_fields(response, way, answer.status)
 }
 
@@ -265,16 +333,17 @@ fn fill(
     response: &mut Response,
     heap: Global,
     way: Way,
+    methods: Methods,
     answer: Answer<Global>,
 ) -> Result<(), Unfilled>
     requires { IsBlank response.old }
-    ensures { OnOk result (Tells way (answer_data answer) response.new) }
+    ensures { OnOk result (Tells way methods (answer_data answer) response.new) }
 {
     let Ok(status) = StatusCode::from_u16(answer.status.number()) else {
         return Err(Unfilled);
     };
     response.status = status;
-    add_fields(response, heap, way, &answer)?;
+    add_fields(response, heap, way, methods, &answer)?;
     add_body(response, answer.body)
 }
 
@@ -292,13 +361,14 @@ pub(crate) fn tell(
     response: &mut Response,
     heap: Global,
     way: Way,
+    methods: Methods,
     told: Result<Answer<Global>, NoMemory>,
 )
     requires { IsBlank response.old }
-    ensures { Told way (outcome_of told) response.new }
+    ensures { Told way methods (answered told) response.new }
 {
     let filled = match told {
-        Ok(answer) => fill(response, heap, way, answer),
+        Ok(answer) => fill(response, heap, way, methods, answer),
         Err(_) => Err(Unfilled),
     };
     if filled.is_err() {

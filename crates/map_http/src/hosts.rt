@@ -1,10 +1,10 @@
 //! For which host a request is.
 
-ghost use Rattle.std.specs.Prelude.{◌≡◌};
+ghost use Rattle.std.specs.Prelude.{◌≡◌, option_map};
 ghost use Rattle.std.specs.Char.{is_ascii_digit};
 ghost use Rattle.std.specs.List.{list_all};
 ghost use Rattle.http.specs.Request.{head_of};
-ghost use Rattle.map_http.specs.Hosts.{begins_with, has_name, is_authority_of, is_for, is_own, is_own_machine, is_path, is_port, names_authority};
+ghost use Rattle.map_http.specs.Hosts.{authority_of, begins_with, has_name, is_authority_of, is_for, is_from_here, is_near, is_own, is_own_machine, is_path, is_port, is_same, names_authority, origin_authority};
 
 use bytes::Bytes;
 use http::{Request, header};
@@ -84,16 +84,71 @@ fn is_own(base: &[u8], authority: &[u8]) -> bool
     is_authority_of(base, authority) || is_own_machine(authority)
 }
 
+/// For which host a request is: by the authority of its target where it has one, else by its first
+/// field `host`.
+fn authority_of(request: &Request<Bytes>) -> Option<&[u8]>
+    ensures { option_map (λ authority. authority.now) result ≡ authority_of (head_of request.now) }
+{
+    if let Some(authority) = request.uri().authority() {
+        return Some(authority.as_str().as_bytes());
+    }
+    match request.headers().get(header::HOST) {
+        Some(value) => Some(value.as_bytes()),
+        None => None,
+    }
+}
+
 /// Whether a request is for the server of this address: by the authority of its target where it has
 /// one, else by its first field `host`.
 pub(crate) fn is_for(base: &[u8], request: &Request<Bytes>) -> bool
     ensures { result ≡ is_for base.now (head_of request.now) }
 {
-    if let Some(authority) = request.uri().authority() {
-        return is_own(base, authority.as_str().as_bytes());
-    }
-    match request.headers().get(header::HOST) {
-        Some(value) => is_own(base, value.as_bytes()),
+    match authority_of(request) {
+        Some(authority) => is_own(base, authority),
         None => false,
+    }
+}
+
+/// The authority of an origin.
+fn origin_authority(origin: &[u8]) -> Option<&[u8]>
+    ensures { option_map (λ authority. authority.now) result ≡ origin_authority origin.now }
+{
+    if origin.starts_with(b"http://") {
+        Some(&origin[7..])
+    } else if origin.starts_with(b"https://") {
+        Some(&origin[8..])
+    } else {
+        None
+    }
+}
+
+/// Whether an authority is the one that a request is for.
+fn is_same(authority: &[u8], request: &Request<Bytes>) -> bool
+    ensures { result ≡ is_same authority.now (authority_of (head_of request.now)) }
+{
+    match authority_of(request) {
+        Some(own) => authority.eq_ignore_ascii_case(own),
+        None => false,
+    }
+}
+
+/// Whether an origin is the server itself, by its address or by the host that the request is for.
+fn is_near(base: &[u8], request: &Request<Bytes>, origin: &[u8]) -> bool
+    ensures { result ≡ is_near base.now (head_of request.now) (origin_authority origin.now) }
+{
+    match origin_authority(origin) {
+        Some(authority) => is_authority_of(base, authority) || is_same(authority, request),
+        None => false,
+    }
+}
+
+/// Whether a request comes from no page of somebody else: it has no field `origin`, or the first one
+/// is the server itself.
+pub(crate) fn is_from_here(base: &[u8], request: &Request<Bytes>) -> bool
+    ensures { result ≡ is_from_here base.now (head_of request.now) }
+{
+    match request.headers().get(header::ORIGIN) {
+        Some(value) => is_near(base, request, value.as_bytes()),
+        None => true,
     }
 }
