@@ -76,6 +76,7 @@ pub fn fixed_answer<A: Allocator + Copy>(
         status: Status::Success,
         media: media_of(page),
         version: None,
+        location: None,
         retry_after: None,
         body,
     })
