@@ -196,10 +196,16 @@ JSON
 # get TARGET [FIELD..]: what is answered to a request for this target at $port, by a connection of its own: the status in $status,
 # the fields in $fields, the body in $body.
 get() {
-    local target=$1 line socket
-    shift
+    request GET "$1" "" "${@:2}"
+}
+
+# request METHOD TARGET BODY [FIELD..]: the same by any method, with a body.
+request() {
+    local target=$2 sent=$3 line socket head=("$1 $2 HTTP/1.1" "Host: 127.0.0.1:$port" "Connection: close")
+    [ -z "$sent" ] || head+=("Content-Length: ${#sent}")
+    shift 3
     exec {socket}<> "/dev/tcp/127.0.0.1/$port" || fail "nobody listens at $port"
-    printf '%s\r\n' "GET $target HTTP/1.1" "Host: 127.0.0.1:$port" "Connection: close" "$@" "" >&"$socket"
+    { printf '%s\r\n' "${head[@]}" "$@" "" && printf '%s' "$sent"; } >&"$socket"
     status="" fields="" body=""
     read -r -t 10 -u "$socket" line || fail "$target is not answered"
     status=${line#HTTP/1.1 }

@@ -4,6 +4,8 @@
 #[cfg(test)]
 mod asker_tests;
 #[cfg(test)]
+mod change_tests;
+#[cfg(test)]
 mod http_tests;
 #[cfg(test)]
 mod kept_tests;

@@ -6,4 +6,6 @@ mod answers_tests;
 #[cfg(test)]
 mod asks_tests;
 #[cfg(test)]
+mod change_tests;
+#[cfg(test)]
 mod pages_tests;
