@@ -1,9 +1,11 @@
 #!/usr/bin/env python3
-"""Tries the map page in a headless Chromium, by its DevTools protocol: browser.py BASE [FOLDER]
+"""Tries the map page in a headless Chromium, by its DevTools protocol: browser.py [--changes CLASS] BASE [FOLDER]
 
 BASE is the address of a server, as http://127.0.0.1:8080; its map should have some features. FOLDER, if it is given, gets pictures of
-the page. Prints a line for each look, and `N passed, M failed` as the last one.
+the page. With --changes the page also adds points of this class, moves and deletes them: then whoever asks there without a name has to be
+permitted to. Prints a line for each look, and `N passed, M failed` as the last one.
 """
+import argparse
 import base64
 import json
 import os
@@ -14,10 +16,11 @@ import subprocess
 import sys
 import tempfile
 import time
+import urllib.error
 import urllib.request
 
 
-KEYS = {'Enter': 13, 'Escape': 27, 'ArrowLeft': 37, 'ArrowUp': 38, 'ArrowRight': 39, 'ArrowDown': 40}
+KEYS = {'Enter': 13, 'Tab': 9, 'Escape': 27, 'ArrowLeft': 37, 'ArrowUp': 38, 'ArrowRight': 39, 'ArrowDown': 40}
 
 
 class Socket:
@@ -162,11 +165,14 @@ STATE = 'document.getElementById("state").textContent'
 IDLE = '!document.body.hasAttribute("aria-busy") && /feature/.test(' + STATE + ') && ' + STATE
 ERROR = '(document.getElementById("error").hidden ? "" : document.querySelector("#error p").textContent)'
 PANEL = '!document.getElementById("panel").hidden && document.querySelector("#panel h2").textContent'
+EDIT = '!document.getElementById("edit").hidden && document.getElementById("title").textContent'
+WHY = 'document.getElementById("edit").hidden ? "" : document.getElementById("why").textContent'
+FOCUS = 'document.activeElement.id'
 
 
 class Looks:
-    def __init__(self, base, folder):
-        self.base, self.folder, self.browser = base.rstrip('/'), folder, Browser()
+    def __init__(self, base, folder, kind):
+        self.base, self.folder, self.kind, self.browser = base.rstrip('/'), folder, kind, Browser()
         self.passed = self.failed = self.told = 0
 
     def look(self, name, right, told=''):
@@ -398,10 +404,231 @@ class Looks:
         page.run('document.body.append(Object.assign(document.createElement("script"), {textContent: "window.got = 1"}))')
         self.look('no script runs but its own', page.run('window.got') is None)
 
+    def click_on(self, name):
+        """A click on a part of the page, by its id."""
+        place = self.browser.run(f'JSON.stringify(document.getElementById("{name}").getBoundingClientRect())')
+        box = json.loads(place)
+        self.browser.click(box['x'] + box['width'] / 2, box['y'] + box['height'] / 2)
+
+    def place(self):
+        """The place that a click has said, once the page has painted it."""
+        self.browser.wait(FOCUS + ' == "do"')
+        return self.browser.run('new Promise((done) => requestAnimationFrame(() => requestAnimationFrame(() => done(document.getElementById("where").textContent))))')
+
+    def stored(self, number):
+        """The feature of this id, as the server has it; None where it has none."""
+        try:
+            with urllib.request.urlopen(f'{self.base}/collections/features/items/{number}') as answer:
+                return json.load(answer)
+        except urllib.error.HTTPError as error:
+            return error.code == 404 and None
+
+    def sent(self):
+        """Method, fields and body of the changes that were sent since the last call."""
+        events, self.told = self.browser.events[self.told:], len(self.browser.events)
+        asked = [event['params']['request'] for event in events if event.get('method') == 'Network.requestWillBeSent']
+        return [one for one in asked if one['method'] not in ('GET', 'HEAD')]
+
+    def adds(self):
+        """By mouse: a point at a click."""
+        page = self.browser
+        page.size(1200, 800)
+        page.dark(False)
+        page.go('about:blank')
+        page.go(self.base + '/map')
+        page.wait(IDLE, 20)
+        self.sent()
+        self.click_on('add')
+        self.look('a button begins a new point', page.wait(EDIT) == 'Add a point')
+        number = int(page.run('document.getElementById("number").value'))
+        page.run(f'document.getElementById("kind").value = "{self.kind}"')
+        self.look('its class can be chosen among those that are shown', page.run('document.getElementById("kind").value') == self.kind)
+        page.click(560, 380)
+        place = self.place()
+        self.look('a click is its place, and sends nothing', place and not self.sent() and page.run(FOCUS) == 'do', place)
+        self.picture('add')
+        self.click_on('do')
+        told = page.wait(PANEL)
+        self.look('it is added, and told of', told == f'{self.kind} {number}', f'{told}; {page.run(STATE)}')
+        feature, (sent,) = self.stored(number), self.sent()
+        self.look('at the place that was shown, by as many decimals as the others',
+                  feature and '[' + place.replace(', ', ',') + ']' in sent['postData'], sent['postData'])
+        self.settle()
+        return number
+
+    def moves_a_point(self, number):
+        page = self.browser
+        self.click_on('shift')
+        self.look('a button moves it', page.wait(EDIT) == f'Move {self.kind} {number}', page.run('document.getElementById("how").textContent'))
+        page.click(500, 300)
+        place = self.place()
+        self.picture('move')
+        self.click_on('do')
+        page.wait(PANEL)
+        feature, (sent,) = self.stored(number), self.sent()
+        self.look('to where was clicked, if it is of the version that was seen',
+                  [f'{n:.9f}' for n in feature['geometry']['coordinates']] == [f'{float(n):.9f}' for n in place.split(', ')] and 'if-match' in sent['headers'], sent['headers'].get('if-match'))
+        self.settle()
+
+    def is_stale(self, number):
+        """Somebody else moves the point before this page does."""
+        page = self.browser
+        self.click_on('shift')
+        page.wait(EDIT)
+        feature = self.stored(number)
+        feature['geometry']['coordinates'][0] += 0.001
+        body = json.dumps({'type': 'Feature', 'id': number, 'properties': {},
+                           'geometry': {'type': 'Point', 'coordinates': [round(n, 6) for n in feature['geometry']['coordinates']]}})
+        request = urllib.request.Request(f'{self.base}/collections/features/items/{number}', body.encode(), method='PUT', headers={
+            'content-type': 'application/geo+json', 'if-match': f'"{feature["properties"]["version"]}"'})
+        urllib.request.urlopen(request).close()
+        page.click(540, 420)
+        self.click_on('do')
+        told = page.wait(WHY)
+        self.look('that somebody else has changed it is told', told and told.startswith('Somebody else'), told)
+        self.picture('stale')
+        self.sent()
+        self.click_on('do')
+        page.wait(PANEL)
+        self.look('and it can be moved all the same', len(self.sent()) == 1 and self.stored(number)['properties']['version'] > feature['properties']['version'] + 1)
+        self.settle()
+
+    def deletes(self, number):
+        page = self.browser
+        self.click_on('drop')
+        self.look('a button asks whether to delete it', page.wait(EDIT) == f'Delete {self.kind} {number}' and page.run(FOCUS) == 'leave')
+        self.picture('delete')
+        page.key('Escape')
+        self.look('Escape leaves it', page.wait(PANEL) and page.run(FOCUS) == 'drop' and self.stored(number) and not self.sent())
+        self.click_on('drop')
+        page.wait(EDIT)
+        self.click_on('do')
+        self.settle()
+        self.look('it is deleted', not self.stored(number) and len(self.sent()) == 1, page.run(STATE))
+
+    def changes_by_keys(self):
+        """A point is added, moved and deleted without a mouse; the id that is proposed first is in use."""
+        page = self.browser
+        page.run('document.getElementById("add").focus()')
+        page.key('Enter', text='\r')
+        self.look('a key begins a new point, and the focus goes to the map', page.wait(EDIT) == 'Add a point' and page.run(FOCUS) == 'map')
+        page.run('document.getElementById("list").open = true')
+        used = page.wait('document.querySelector("#list li button")?.textContent').split(',')[0].split()[-1]
+        page.run('document.getElementById("list").open = false')
+        self.settle()
+        page.run(f'document.getElementById("kind").value = "{self.kind}"')
+        page.run(f'document.getElementById("number").value = "{used}"')
+        page.key('ArrowLeft')
+        self.settle()
+        page.key('Enter', text='\r')
+        page.wait(FOCUS + ' == "do"')
+        page.key('Enter', text='\r')
+        told = page.wait(WHY)
+        number = page.run('document.getElementById("number").value')
+        self.look('an id in use is told, and another one proposed', told and told.startswith('This id is in use') and number != used, told)
+        page.key('Enter', text='\r')
+        told = page.wait(PANEL)
+        self.look('and is taken', told == f'{self.kind} {number}' and self.stored(number) is not None, told)
+        self.settle()
+        for button, label, wanted in (('shift', 'Move', 'map'), ('drop', 'Delete', 'leave')):
+            for _ in range(12):
+                page.key('Tab')
+                if page.run(FOCUS) == button:
+                    break
+            page.key('Enter', text='\r')
+            self.look(f'the key Tab leads to the button {label}', page.wait(EDIT) == f'{label} {self.kind} {number}' and page.run(FOCUS) == wanted, page.run(FOCUS))
+            if wanted == 'map':
+                page.key('ArrowUp')
+                self.settle()
+                before = self.stored(number)
+                page.key('Enter', text='\r')
+                page.wait(FOCUS + ' == "do"')
+                page.key('Enter', text='\r')
+                page.wait(PANEL)
+                self.settle()
+                self.look('Enter is the middle as its new place', self.stored(number)['geometry'] != before['geometry'])
+            else:
+                for _ in range(12):
+                    page.call('Input.dispatchKeyEvent', type='keyDown', key='Tab', code='Tab', windowsVirtualKeyCode=9, modifiers=8)
+                    if page.run(FOCUS) == 'do':
+                        break
+                page.key('Enter', text='\r')
+                self.settle()
+                self.look('it is deleted by keys', self.stored(number) is None, page.run(STATE))
+
+    def is_refused(self):
+        """What a server may say, made up in the browser."""
+        page = self.browser
+        for status, problem, wanted in ((403, {'code': 'denied', 'rule': 'zones-stay'}, 'The rule "zones-stay" denies it.'),
+                                        (403, {'code': 'denied', 'rule': None}, 'No rule'), (403, {'code': 'origin'}, 'address'),
+                                        (405, {'code': 'method'}, 'no changes'), (401, {'code': 'H1'}, 'H1'), (400, {'code': 'M3', 'place': ''}, 'M3'),
+                                        (422, {'code': 'class'}, 'class'), (503, {'code': 'held'}, 'busy'), (507, {'code': 'X11'}, 'X11'),
+                                        (404, {'code': 'absent'}, 'no such feature'), (502, 'a proxy', '502'), (0, None, 'No answer came')):
+            answer = ('throw new TypeError("no way")' if not status else
+                      'return new Response(' + json.dumps(json.dumps(problem) if isinstance(problem, dict) else problem) + ', {status: ' + str(status) + '})')
+            page.run('window.asIs ??= fetch; window.fetch = async (address, words) => { if ((words.method ?? "GET") === "GET") return asIs(address, words); ' + answer + ' }')
+            self.click_on('add')
+            page.wait(EDIT)
+            self.click_on('do')
+            told = page.wait(WHY)
+            self.look(f'{status} {problem} is told', told and wanted in told, told)
+            page.key('Escape')
+        page.run('window.fetch = asIs')
+        self.click_on('add')
+        page.wait(EDIT)
+        for wrong in ('', '-1', '1.5', '007', '1e3', 'x'):
+            page.run(f'document.getElementById("number").value = "{wrong}"')
+            page.run('document.getElementById("why").textContent = ""')
+            self.sent()
+            self.click_on('do')
+            self.look(f'the id "{wrong}" is not sent', page.wait(WHY) and not self.sent())
+        page.key('Escape')
+
+    def changes_on_a_phone(self):
+        page = self.browser
+        page.size(390, 780, mobile=True)
+        page.dark(True)
+        page.go('about:blank')
+        page.go(self.base + '/map')
+        page.wait(IDLE, 20)
+        page.run('document.getElementById("add").click()')
+        page.wait(EDIT)
+        page.run(f'document.getElementById("kind").value = "{self.kind}"')
+        time.sleep(0.5)
+        self.look('nothing is wider than a phone, with a point to add', page.run('document.documentElement.scrollWidth <= innerWidth'))
+        small = page.run('[...document.querySelectorAll("#edit button, #edit select, #edit input")].filter(e => e.offsetParent && e.offsetHeight < 40).map(e => e.id).join()')
+        self.look('what is touched there is large enough', small == '', small)
+        self.look('the middle of the map is not covered', page.run('(() => { const a = document.getElementById("map").getBoundingClientRect(),'
+                  ' b = document.getElementById("edit").getBoundingClientRect(); return a.y + a.height / 2 < b.y; })()'))
+        self.picture('phone_add')
+        page.touch('touchStart', (200, 250))
+        page.touch('touchEnd')
+        page.wait(FOCUS + ' == "do"')
+        number = page.run('document.getElementById("number").value')
+        page.run('document.getElementById("do").click()')
+        told = page.wait(PANEL)
+        self.look('a touch adds a point', told == f'{self.kind} {number}' and self.stored(number) is not None, told)
+        self.settle()
+        self.picture('phone_added')
+        page.run('document.getElementById("drop").click()')
+        page.wait(EDIT)
+        page.run('document.getElementById("do").click()')
+        self.settle()
+        self.look('and it is deleted there', self.stored(number) is None)
+
+    def changes(self):
+        number = self.adds()
+        self.moves_a_point(number)
+        self.is_stale(number)
+        self.deletes(number)
+        self.changes_by_keys()
+        self.is_refused()
+        self.changes_on_a_phone()
+
     def all(self):
         try:
             for part in (self.opens, self.moves, self.cancels, self.tells, self.hides, self.pages, self.errs, self.fits_a_phone, self.is_dark,
-                         self.keeps_its_policy):
+                         *([self.changes] if self.kind else []), self.keeps_its_policy):
                 part()
         finally:
             self.browser.close()
@@ -410,4 +637,9 @@ class Looks:
 
 
 if __name__ == '__main__':
-    sys.exit(1 if Looks(sys.argv[1], sys.argv[2] if len(sys.argv) > 2 else None).all() else 0)
+    parser = argparse.ArgumentParser()
+    parser.add_argument('base')
+    parser.add_argument('folder', nargs='?')
+    parser.add_argument('--changes', metavar='CLASS')
+    told = parser.parse_args()
+    sys.exit(1 if Looks(told.base, told.folder, told.changes).all() else 0)

@@ -3,9 +3,9 @@
 
     stand_in.py PORT [FEATURES [BASE]]
 
-It serves crates/map_page/map.html and the pages of a made-up map near 7 degrees east, 46 north, in landmap's words. It is no
-measure of landmap: what landmap answers is what its crates say. A path /slow before any other waits a second; /fail/N answers
-with status N.
+It serves the map page of crates/map_page and the pages of a made-up map near 7 degrees east, 46 north, in landmap's words, and takes
+changes. Its rule `zones-stay` denies each change of a zone, and no rule permits one of a sign. It is no measure of landmap: what landmap
+answers is what its crates say. A path /slow before any other waits a second; /fail/N answers with status N.
 """
 import collections
 import http.server
@@ -15,6 +15,7 @@ import os
 import random
 import re
 import sys
+import threading
 import time
 import urllib.parse
 from decimal import ROUND_CEILING, ROUND_FLOOR, Decimal
@@ -25,8 +26,11 @@ HERE = os.path.dirname(os.path.abspath(__file__))
 ORIGIN = (Decimal(7), Decimal(46))
 DECIMALS = int(os.environ.get('DECIMALS', '6'))
 REACH = 10_000_000
+LONGEST = 131_072 # bytes of a body
+DOCUMENTS = ('application/geo+json', 'application/json')
 CLASSES = ['mast', 'road', 'parcel', 'zone']
 KEPT = 16
+LOCK = threading.Lock()
 
 
 def made_up(count):
@@ -78,8 +82,9 @@ def plain(corners):
 
 
 class Fault(Exception):
-    def __init__(self, status, code, retry=None):
-        self.status, self.code, self.retry = status, code, retry
+    def __init__(self, status, code, retry=None, fields=(), **more):
+        self.status, self.code, self.more = status, code, more
+        self.fields = list(fields) + ([('retry-after', str(retry))] if retry else [])
 
 
 NUMBER = re.compile(r'[+-]?(\d+\.?\d*|\.\d+)([eE][+-]?\d{1,4})?$')
@@ -108,6 +113,85 @@ def natural(text):
     return int(text)
 
 
+def text_of(name, parts):
+    """The text that a definition means: `codes "TEXT"`, names of other definitions, `++` between them."""
+    return ''.join(json.loads(word[6:]) if word.startswith('codes ') else text_of(word, parts) for word in parts[name].split(' ++ '))
+
+
+def member(value, name, place, kind, wanted=True):
+    """A member of an object, of this kind."""
+    got = value.get(name)
+    if not isinstance(got, kind) and (wanted or got is not None):
+        raise Fault(400, 'J2', place=f'{place}/{name}')
+    return got
+
+
+def step_of(axis, value, place):
+    """The number of steps that a coordinate means."""
+    if not isinstance(value, Decimal):
+        raise Fault(400, 'J2', place=place)
+    steps = (value - ORIGIN[axis]).scaleb(DECIMALS)
+    if steps != steps.to_integral_value():
+        raise Fault(400, 'M2', place=place)
+    if abs(steps) > REACH:
+        raise Fault(400, 'M3', place=place)
+    return int(steps)
+
+
+def point_of(value, place):
+    if not isinstance(value, list) or len(value) < 2:
+        raise Fault(400, 'J2', place=place)
+    return tuple(step_of(axis, value[axis], f'{place}/{axis}') for axis in (0, 1))
+
+
+def ring_of(points):
+    """The corners of a ring, counter-clockwise, if it is convex."""
+    if len(points) < 4:
+        raise Fault(422, 'P4')
+    if points[0] != points[-1]:
+        raise Fault(422, 'P5')
+    corners = points[:-1]
+    if len(set(corners)) < len(corners):
+        raise Fault(422, 'P6')
+    if sum(a[0] * b[1] - b[0] * a[1] for a, b in zip(points, points[1:])) < 0:
+        corners = corners[::-1]
+    turns = [(b[0] - a[0]) * (c[1] - b[1]) - (b[1] - a[1]) * (c[0] - b[0]) for a, b, c in zip(corners, corners[1:] + corners, corners[2:] + corners)]
+    if not any(turns):
+        raise Fault(422, 'P7')
+    if min(turns) < 0:
+        raise Fault(422, 'P8')
+    return [corner for corner, turn in zip(corners[1:] + corners[:1], turns) if turn]
+
+
+def corners_of(geometry):
+    kind, given, place = geometry.get('type'), geometry.get('coordinates'), '/geometry/coordinates'
+    if kind not in ('Point', 'LineString', 'Polygon', 'MultiLineString', 'MultiPolygon'):
+        raise Fault(400, 'J3', place='/geometry/type')
+    if kind == 'Point':
+        return [point_of(given, place)]
+    if not isinstance(given, list) or not given:
+        raise Fault(400, 'J2', place=place)
+    if kind.startswith('Multi'):
+        raise Fault(422, 'parts')
+    lines = [given] if kind == 'LineString' else given
+    points = [[point_of(point, f'{place}/{n}/{m}') for m, point in enumerate(line)] for n, line in enumerate(lines)]
+    if len(points) > 1 or kind == 'LineString' and len(points[0]) != 2:
+        raise Fault(422, 'parts')
+    if kind == 'LineString' and points[0][0] == points[0][1]:
+        raise Fault(422, 'P2')
+    return points[0] if kind == 'LineString' else ring_of(points[0])
+
+
+def id_in(document):
+    for place, holder in ('', document), ('/properties', document.get('properties') or {}):
+        got = holder.get('id')
+        if got is not None:
+            if not re.match(r'(0|[1-9]\d*)$', str(got)) or int(got) >= 2 ** 64:
+                raise Fault(400, 'J2', place=place + '/id')
+            return int(got)
+    return None
+
+
 class StandIn(http.server.BaseHTTPRequestHandler):
     protocol_version = 'HTTP/1.1'
     rows, base, kept, given = [], '', collections.OrderedDict(), 0
@@ -128,24 +212,117 @@ class StandIn(http.server.BaseHTTPRequestHandler):
         if self.command != 'HEAD':
             self.wfile.write(data)
 
-    def problem(self, status, code, fields=()):
-        title = http.HTTPStatus(status).phrase
-        self.send(status, 'application/problem+json', f'{{"type":"about:blank","title":"{title}","status":{status},"code":"{code}"}}', fields)
+    def problem(self, fault):
+        told = {'type': 'about:blank', 'title': http.HTTPStatus(fault.status).phrase, 'status': fault.status, 'code': fault.code, **fault.more}
+        self.send(fault.status, 'application/problem+json', json.dumps(told), fault.fields)
+
+    def chunks(self):
+        while size := int(self.rfile.readline(), 16):
+            yield self.rfile.read(size)
+            self.rfile.readline()
+        self.rfile.readline()
+
+    def body(self):
+        if self.headers.get('transfer-encoding') == 'chunked':
+            return b''.join(self.chunks())
+        length = int(self.headers.get('content-length') or 0)
+        if length <= LONGEST:
+            return self.rfile.read(length)
+        self.close_connection = True
+        self.send(413, '', '')
+        while length > 0 and (piece := self.rfile.read(min(length, LONGEST))):
+            length -= len(piece)
+        return None
 
     def do_any(self):
-        if self.command not in ('GET', 'HEAD'):
-            self.rfile.read(int(self.headers.get('content-length') or 0))
-            return self.problem(405, 'method', [('allow', 'GET, HEAD')])
+        body = self.body()
+        if body is None:
+            return
         try:
+            if self.command not in ('GET', 'HEAD'):
+                with LOCK:
+                    return self.change(*self.path.partition('?')[::2], body)
             path, _, query = self.path.partition('?')
             if path.startswith('/slow/'):
                 time.sleep(1)
                 path = path[5:]
             self.page(path, query)
         except Fault as fault:
-            self.problem(fault.status, fault.code, [('retry-after', str(fault.retry))] if fault.retry else [])
+            self.problem(fault)
 
-    do_GET = do_HEAD = do_POST = do_PUT = do_PATCH = do_DELETE = do_OPTIONS = do_any
+    do_GET = do_HEAD = do_POST = do_PUT = do_PATCH = do_DELETE = do_OPTIONS = do_TRACE = do_BREW = do_any
+
+    def change(self, path, query, body):
+        """What the request changes, refused in the order that `read_change` of crates/map_changes tells."""
+        match = re.match(r'/collections/([^/]*)/items(?:/(0|[1-9]\d*))?$', path)
+        layer, item = match.groups() if match and match[1] in CLASSES + ['features'] and int(match[2] or 0) < 2 ** 64 else (None, None)
+        allowed = 'GET, HEAD'
+        if layer and item is None:
+            allowed += ', POST'
+        elif layer == 'features':
+            allowed += ', PUT, PATCH, DELETE'
+        origin = self.headers.get('origin')
+        if origin is not None and origin not in (self.base, 'http://' + self.headers.get('host', '')):
+            raise Fault(403, 'origin')
+        if layer is None and not self.fixed(path):
+            raise Fault(404, 'U1')
+        if self.command not in allowed.split(', '):
+            raise Fault(405, 'method', fields=[('allow', allowed)])
+        if query.strip('&'):
+            raise Fault(400, 'U2')
+        self.add(layer, body) if item is None else self.alter(int(item), body)
+
+    def document(self, body):
+        media = re.split('[; ]', self.headers.get('content-type', ''))[0].lower()
+        if media not in DOCUMENTS + (('application/merge-patch+json',) if self.command == 'PATCH' else ()):
+            raise Fault(415, 'media')
+        try:
+            document = json.loads(body.decode(), parse_float=Decimal, parse_int=Decimal)
+        except (ValueError, RecursionError):
+            raise Fault(400, 'J1', place='') from None
+        if not isinstance(document, dict):
+            raise Fault(400, 'J2', place='')
+        if document.get('type') != 'Feature':
+            raise Fault(400, 'J3', place='/type')
+        member(document, 'properties', '', dict, wanted=False)
+        return id_in(document), (document.get('properties') or {}).get('class'), corners_of(member(document, 'geometry', '', dict))
+
+    def add(self, layer, body):
+        number, kind, corners = self.document(body)
+        if number is None:
+            raise Fault(422, 'id')
+        kind = kind or (None if layer == 'features' else layer)
+        if kind is None or layer not in ('features', kind) or not re.match(r'[a-z0-9-]{1,32}$', kind):
+            raise Fault(422, 'class')
+        self.judge(kind)
+        if any(row[0] == number for row in self.rows):
+            raise Fault(409, 'exists')
+        StandIn.rows = sorted(self.rows + [(number, kind, 'north', 1, corners)])
+        self.send(201, '', '', [('location', f'{self.base}/collections/{layer}/items/{number}'), ('etag', '"1"')])
+
+    def alter(self, number, body):
+        tag = self.headers.get('if-match', '')
+        if tag in ('', '*'):
+            raise Fault(428, 'version')
+        if not re.match(r'"(0|[1-9]\d*)"$', tag):
+            raise Fault(412, 'stale')
+        own, _, corners = self.document(body) if self.command != 'DELETE' else (number, None, None)
+        if own not in (None, number):
+            raise Fault(422, 'id')
+        row = next((row for row in self.rows if row[0] == number), None)
+        if row is None:
+            raise Fault(404, 'absent')
+        self.judge(row[1])
+        if tag != f'"{row[3]}"':
+            raise Fault(412, 'stale', current=row[3], fields=[('etag', f'"{row[3]}"')])
+        others = [other for other in self.rows if other[0] != number]
+        StandIn.rows = sorted(others + ([row[:3] + (row[3] + 1, corners)] if corners else []))
+        self.send(204, '', '', [('etag', f'"{row[3] + 1}"')] if corners else [])
+
+    @staticmethod
+    def judge(kind):
+        if kind in ('zone', 'sign'):
+            raise Fault(403, 'denied', rule='zones-stay' if kind == 'zone' else None)
 
     def link(self, relation, media, path):
         return f'{{"rel":"{relation}","type":"{media}","href":{json.dumps(self.base + path)}}}'
@@ -187,8 +364,8 @@ class StandIn(http.server.BaseHTTPRequestHandler):
     def fixed(self, path):
         api = 'application/vnd.oai.openapi+json;version=3.0'
         if path == '/map':
-            with open(os.path.join(HERE, '../../crates/map_page/map.html'), encoding='utf-8') as file:
-                return 'text/html; charset=utf-8', file.read()
+            with open(os.path.join(HERE, '../../crates/map_page/src/page.rt'), encoding='utf-8') as file:
+                return 'text/html; charset=utf-8', re.search(r'r##"(.*)"##;', file.read(), re.S)[1]
         if path == '/':
             links = [self.link('self', 'application/json', '/'), self.link('service-desc', api, '/api'),
                      self.link('conformance', 'application/json', '/conformance'), self.link('data', 'application/json', '/collections'),
@@ -202,10 +379,8 @@ class StandIn(http.server.BaseHTTPRequestHandler):
             return 'application/json', f'{{"links":[{self.link("self", "application/json", "/collections")}],"collections":[{listed}]}}'
         if path == '/api':
             with open(os.path.join(HERE, '../../crates/map_pages/specs/Api.antt'), encoding='utf-8') as file:
-                parts = dict(re.findall(r'^(\w+) =\s+codes (".*")$', file.read(), re.M))
-            order = ['root_path', 'conformance_path', 'collections_path', 'collection_path', 'map_path', 'items_path', 'item_path']
-            said = {name: json.loads(text) for name, text in parts.items()}
-            return api, said['api_head'] + json.dumps(self.base) + said['paths_key'] + ''.join(said[name] for name in order) + '}}'
+                parts = dict(re.findall(r'^(\w+) =\s+(.*)$', file.read(), re.M))
+            return api, text_of('api_head', parts) + json.dumps(self.base) + text_of('paths_key', parts) + text_of('paths_text', parts)
         name = path.removeprefix('/collections/')
         if name != path and name in CLASSES + ['features']:
             return 'application/json', self.collection(name)
