@@ -1,4 +1,4 @@
-"""Convex shapes in a plane, with exact numbers: whether a shape meets a box."""
+"""Convex shapes in a plane, with exact numbers: whether two meet."""
 
 
 def corners(geometry):
@@ -11,18 +11,23 @@ def corners(geometry):
     return [tuple(place) for place in places[0][:-1]]
 
 
-def meets(geometry, box):
-    """Whether a shape and a box (west, south, east, north) have a point in common: no line parts them."""
-    shape = corners(geometry)
-    west, south, east, north = box
-    frame = [(west, south), (east, south), (east, north), (west, north)]
-    axes = [(1, 0), (0, 1)]
-    for n, (x, y) in enumerate(shape):
-        dx, dy = shape[n - 1][0] - x, shape[n - 1][1] - y
-        axes += [(dx, dy), (-dy, dx)]
-    for ax, ay in axes:
-        ours = [x * ax + y * ay for x, y in shape]
-        theirs = [x * ax + y * ay for x, y in frame]
-        if max(ours) < min(theirs) or max(theirs) < min(ours):
-            return False
+def touch(ours, theirs):
+    """Whether two convex shapes, told by their corners, have a point in common: no line parts them."""
+    def parted(ax, ay):
+        mine, yours = [x * ax + y * ay for x, y in ours], [x * ax + y * ay for x, y in theirs]
+        return max(mine) < min(yours) or max(yours) < min(mine)
+
+    if parted(1, 0) or parted(0, 1):
+        return False
+    for shape in (ours, theirs):
+        for n, (x, y) in enumerate(shape):
+            dx, dy = shape[n - 1][0] - x, shape[n - 1][1] - y
+            if parted(dx, dy) or parted(-dy, dx):
+                return False
     return True
+
+
+def meets(geometry, box):
+    """Whether a shape and a box (west, south, east, north) have a point in common."""
+    west, south, east, north = box
+    return touch(corners(geometry), [(west, south), (east, south), (east, north), (west, north)])
