@@ -332,13 +332,17 @@ class Looks:
         """Pages of 20 in place of 1,000: five are followed, five more by a button, and where the rest is gone the view is asked for anew."""
         page = self.browser
         page.run('window.asIs ??= fetch; window.fetch = (address, words) => asIs(address.replace("limit=1000", "limit=20"), words)')
+        # Where a message goes, the map gets higher, and its view is asked for anew.
+        time.sleep(0.6)
+        self.settle()
         self.asked()
         page.run('document.getElementById("again").click()')
         self.settle()
         told = page.run(STATE)
         self.look('says how many of how many are shown', told.startswith('100 of '), told)
         time.sleep(0.6)
-        self.look('and does not ask for it twice', sum('bbox=' in address for address in self.asked()) == 1)
+        asked = [address for address in self.asked() if 'bbox=' in address]
+        self.look('and does not ask for it twice', len(asked) == 1, asked)
         whole = int(told.split()[2].replace(',', ''))
         page.run('document.getElementById("more").click()')
         self.settle()
