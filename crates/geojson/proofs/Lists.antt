@@ -12,11 +12,11 @@ use Rattle.grid.specs.declared.grids.Grid.{Grid}
 use Rattle.geojson.specs.declared.geometries.Layout.{Layout}
 use Rattle.geojson.specs.Reading.{list_from, with_all, with_front, with_role, role_at, points_in, path_at}
 
-pub with_none : {T : Type 0} (r : Result (List T) CoordinatesFault) → r ≡ with_all [] r
+pub with_none : {T F : Type 0} (r : Result (List T) F) → r ≡ with_all [] r
 with_none (Ok ys) = refl
 with_none (Err fault) = refl
 
-with_one_more : {T : Type 0} (xs : List T) (x : T) (r : Result (List T) CoordinatesFault) → with_all xs (with_front x r) ≡ with_all (xs ++ x ∷ []) r
+with_one_more : {T F : Type 0} (xs : List T) (x : T) (r : Result (List T) F) → with_all xs (with_front x r) ≡ with_all (xs ++ x ∷ []) r
 with_one_more xs x (Ok ys) = ap Ok (sym (append_assoc xs (x ∷ []) ys))
 with_one_more xs x (Err fault) = refl
 
@@ -26,7 +26,7 @@ pub items_at : {A : Type 0} (vs : List (Value A)) (i : ℕ) (d : Value A) → i 
 items_at vs i d lt = ap items_view (drop-cons vs i d lt)
 
 -- one more value was read
-pub list_more : {A T : Type 0} (read : ℕ → Json → Result T CoordinatesFault) (vs : List (Value A)) (xs : List T) (whole : Result (List T) CoordinatesFault) (i : ℕ) (v : Value A) (x : T)
+pub list_more : {A T F : Type 0} (read : ℕ → Json → Result T F) (vs : List (Value A)) (xs : List T) (whole : Result (List T) F) (i : ℕ) (v : Value A) (x : T)
     → i < length vs → v ≡ get_or vs i v → whole ≡ with_all xs (list_from read i (items_view (drop i vs))) → read i (value_view v) ≡ Ok x
     → whole ≡ with_all (xs ++ x ∷ []) (list_from read (i + 1) (items_view (drop (i + 1) vs)))
 unfolding list_from
@@ -40,7 +40,7 @@ list_more read vs xs whole i v x lt is so_far e =
     ∙ ap (λ (n : ℕ). with_all (xs ++ x ∷ []) (list_from read n (items_view (drop n vs)))) next
 
 -- a value was at fault
-list_fault : {A T : Type 0} (read : ℕ → Json → Result T CoordinatesFault) (vs : List (Value A)) (xs : List T) (whole : Result (List T) CoordinatesFault) (i : ℕ) (v : Value A) (fault : CoordinatesFault)
+list_fault : {A T F : Type 0} (read : ℕ → Json → Result T F) (vs : List (Value A)) (xs : List T) (whole : Result (List T) F) (i : ℕ) (v : Value A) (fault : F)
     → i < length vs → v ≡ get_or vs i v → whole ≡ with_all xs (list_from read i (items_view (drop i vs))) → read i (value_view v) ≡ Err fault
     → whole ≡ Err fault
 unfolding list_from
@@ -51,7 +51,7 @@ list_fault read vs xs whole i v fault lt is so_far e =
     ∙ ap (λ r. with_all xs (r >>= λ y. with_front y (list_from read (suc i) (items_view (drop (suc i) vs))))) e
 
 -- all values were read
-pub list_end : {A T : Type 0} (read : ℕ → Json → Result T CoordinatesFault) (vs : List (Value A)) (xs : List T) (whole : Result (List T) CoordinatesFault) (i : ℕ)
+pub list_end : {A T F : Type 0} (read : ℕ → Json → Result T F) (vs : List (Value A)) (xs : List T) (whole : Result (List T) F) (i : ℕ)
     → length vs ≤ i → whole ≡ with_all xs (list_from read i (items_view (drop i vs))) → whole ≡ Ok xs
 unfolding list_from
 list_end read vs xs whole i le so_far =
@@ -66,11 +66,12 @@ go-fault : (b : Bool) (P : Type 0) → P → MatchBool b ⊤ P
 go-fault true P p = tt
 go-fault false P p = p
 
-pub list_told : {A T : Type 0} (read : ℕ → Json → Result T CoordinatesFault) (vs : List (Value A)) (xs : List T) (whole : Result (List T) CoordinatesFault) (i : ℕ) (v : Value A) (fault : CoordinatesFault)
-    → i < length vs → v ≡ get_or vs i v → whole ≡ with_all xs (list_from read i (items_view (drop i vs))) → MatchBool (is_memory fault.cause) ⊤ (read i (value_view v) ≡ Err fault)
-    → MatchBool (is_memory fault.cause) ⊤ (whole ≡ Err fault)
-list_told read vs xs whole i v fault lt is so_far told =
-    go-told (is_memory fault.cause) (read i (value_view v) ≡ Err fault) (whole ≡ Err fault) (λ e. list_fault read vs xs whole i v fault lt is so_far e) told
+-- a value was at fault, or wanted memory
+pub list_told : {A T F : Type 0} (refused : Bool) (read : ℕ → Json → Result T F) (vs : List (Value A)) (xs : List T) (whole : Result (List T) F) (i : ℕ) (v : Value A) (fault : F)
+    → i < length vs → v ≡ get_or vs i v → whole ≡ with_all xs (list_from read i (items_view (drop i vs))) → MatchBool refused ⊤ (read i (value_view v) ≡ Err fault)
+    → MatchBool refused ⊤ (whole ≡ Err fault)
+list_told refused read vs xs whole i v fault lt is so_far told =
+    go-told refused (read i (value_view v) ≡ Err fault) (whole ≡ Err fault) (λ e. list_fault read vs xs whole i v fault lt is so_far e) told
 
 pub list_told_plain : {A T : Type 0} (read : ℕ → Json → Result T CoordinatesFault) (vs : List (Value A)) (xs : List T) (whole : Result (List T) CoordinatesFault) (i : ℕ) (v : Value A) (fault : CoordinatesFault)
     → i < length vs → v ≡ get_or vs i v → whole ≡ with_all xs (list_from read i (items_view (drop i vs))) → read i (value_view v) ≡ Err fault

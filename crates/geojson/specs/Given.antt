@@ -1,12 +1,13 @@
 -- What a text says of a feature (RFC 7946), or its first fault.
 use Rattle.std.specs.Prelude.{◌≡◌, ℕ, Bool, true, false, List, [], ◌∷◌, codes, map, flat_map, Option, None, Some, option_and_then, ok_or, Result, Ok, Err, MatchBool, ⊤, if◌then◌else◌}
-use Rattle.std.specs.Str.{bytes_eq, is_utf8}
+use Rattle.std.specs.Str.{bytes_eq}
 use Rattle.json.specs.Find.{get, is_null, as_str, as_array, as_object}
-use Rattle.json.specs.Json.{Json, null, boolean, number, string, array, object, Items, document}
+use Rattle.json.specs.Json.{Json, null, boolean, number, string, array, object, Items}
 use Rattle.line_words.specs.Words.{number_of}
 use Rattle.features.specs.Names.{name_of}
 use Rattle.plane.specs.declared.point.Point.{Point}
 use Rattle.grid.specs.declared.grids.Grid.{Grid}
+use Rattle.geojson.specs.declared.faults.Cause.{Cause}
 use Rattle.geojson.specs.declared.faults.Cause.TheVariants as causes
 use Rattle.geojson.specs.declared.faults.CoordinatesFault.{CoordinatesFault}
 use Rattle.geojson.specs.declared.faults.FeatureFault.{FeatureFault}
@@ -20,6 +21,7 @@ use Rattle.geojson.specs.declared.given.Kind.{Kind}
 use Rattle.geojson.specs.declared.given.Kind.TheVariants as kinds
 use Rattle.geojson.specs.declared.given.Said.{Said}
 use Rattle.geojson.specs.declared.given.Wished.{Wished}
+use Rattle.geojson.specs.Documents.{json_in}
 use Rattle.geojson.specs.Faults.{fault_here, fault_at, in_polygon, is_memory, ◌>>=◌}
 use Rattle.geojson.specs.Paths.{path_view}
 use Rattle.geojson.specs.Reading.{PathOf, list_from, position_in, points_in, paths_in}
@@ -254,12 +256,14 @@ unfoldable pub feature_in : Grid → Wished → Json → Result GivenData Featur
 feature_in grid wished j =
     if is_feature j then whole_feature grid wished j else bare_in grid j
 
--- the same of a text, which is UTF-8
+-- a fault of the whole text
+abbrev pub in_text : {T : Type 0} → Result T Cause → Result T FeatureFault
+in_text (Ok x) = Ok x
+in_text (Err cause) = Err (fault_at places.Text cause)
+
+-- the same of a text
 unfoldable pub feature_read : Grid → Wished → List ℕ → Result GivenData FeatureFault
-feature_read grid wished text =
-    if is_utf8 text
-    then ok_or (document text) (fault_at places.Text causes.NotJson) >>= feature_in grid wished
-    else Err (fault_at places.Text causes.NotJson)
+feature_read grid wished text = in_text (json_in text) >>= feature_in grid wished
 
 -- the returned value, seen through `view`, is that of the reading; or an allocation was refused
 abbrev pub Tells : {X Y : Type 0} → (X → Y) → Result X FeatureFault → Result Y FeatureFault → Type 0

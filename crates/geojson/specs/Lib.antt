@@ -5,4 +5,5 @@ pub mod Reading
 pub mod Paths
 pub mod Trees
 pub mod Pointers
+pub mod Documents
 pub mod Given

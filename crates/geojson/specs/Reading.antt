@@ -43,19 +43,18 @@ position_of grid (Some x) (Some y) =
 unfoldable pub position_in : Grid → Json → Result Point CoordinatesFault
 position_in grid j = position_of grid (at 0 j) (at 1 j)
 
-abbrev pub with_front : {T : Type 0} → T → Result (List T) CoordinatesFault → Result (List T) CoordinatesFault
+abbrev pub with_front : {T F : Type 0} → T → Result (List T) F → Result (List T) F
 with_front x (Ok xs) = Ok (x ∷ xs)
 with_front x (Err fault) = Err fault
 
 -- these values, and behind them those of a reading
-abbrev pub with_all : {T : Type 0} → List T → Result (List T) CoordinatesFault
-    → Result (List T) CoordinatesFault
+abbrev pub with_all : {T F : Type 0} → List T → Result (List T) F → Result (List T) F
 with_all xs (Ok ys) = Ok (xs ++ ys)
 with_all xs (Err fault) = Err fault
 
 -- the values of an array, each read with its index, the first of which is `n`
-unfoldable pub list_from : {T : Type 0} → (ℕ → Json → Result T CoordinatesFault) → ℕ → Items
-    → Result (List T) CoordinatesFault
+unfoldable pub list_from : {T F : Type 0} → (ℕ → Json → Result T F) → ℕ → Items
+    → Result (List T) F
 list_from read n no_items = Ok []
 list_from read n (item j js) = read n j >>= λ x. with_front x (list_from read (suc n) js)
 

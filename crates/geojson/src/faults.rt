@@ -218,7 +218,7 @@ impl FeatureFault {
     ghost use Rattle.geojson.specs.Faults.{fault_at};
 
     /// A fault of a whole member.
-    pub(crate) fn at(member: Member, cause: Cause) -> Self
+    pub fn at(member: Member, cause: Cause) -> Self
         ensures { result ≡ fault_at member cause }
     {
         FeatureFault {

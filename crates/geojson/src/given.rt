@@ -3,7 +3,7 @@
 ghost use Rattle.std.specs.Prelude.{◌≡◌, [], ◌∷◌, Ok, option_map};
 ghost use Rattle.json.specs.Find.{get};
 ghost use Rattle.json.specs.Value.{value_view};
-ghost use Rattle.geojson.specs.Faults.{Gives, unread_cause};
+ghost use Rattle.geojson.specs.Faults.{Gives};
 ghost use Rattle.geojson.specs.Paths.{geometry_view};
 ghost use Rattle.geojson.specs.Given.{Tells, Reads, given_view, all_wished};
 ghost use Rattle.geojson.specs.Given.{kind_of, kind_in, type_name, whole_member, type_member, coordinates_member};
@@ -12,13 +12,14 @@ ghost use Rattle.geojson.specs.Given.{present, whole_number, name_in, number_mem
 ghost use Rattle.geojson.specs.Given.{id_in, version_in, office_in, class_in, if_wished, said_in};
 ghost use Rattle.geojson.specs.Given.{is_feature, whole_feature, bare_in, with_paths, feature_in};
 
-use crate::faults::{Cause, CoordinatesFault, FeatureFault, JsonRefused, Member};
+use crate::documents::read_json;
+use crate::faults::{Cause, CoordinatesFault, FeatureFault, Member};
 use crate::geometries::{Geometry, Layout, Path, Role};
 use crate::polygons::polygons;
 use crate::reading::{paths, points, position};
 use features::Name;
 use grid::Grid;
-use json::{Error, Scratch, Value};
+use json::{Scratch, Value};
 use memory::GrowVec;
 use plane::Point;
 use std::alloc::Allocator;
@@ -235,8 +236,8 @@ fn present<'v, 'a, A: Allocator>(value: Option<&'v Value<'a, A>>) -> Option<&'v 
     if value.is_null() { None } else { Some(value) }
 }
 
-/// A whole number: digits, or a text of digits.
-fn whole_number<A: Allocator>(value: &Value<'_, A>) -> Option<u64>
+/// A whole number: digits, or a text of digits; below 2^64.
+pub fn whole_number<A: Allocator>(value: &Value<'_, A>) -> Option<u64>
     ensures { result ≡ whole_number (value_view value.now) }
 {
     match value {
@@ -409,9 +410,11 @@ fn said_in<A: Allocator>(wished: Wished, feature: &Value<'_, A>) -> Result<Said,
     })
 }
 
-/// The geometry of a feature.
+/// The geometry that a JSON value has as its member `geometry`, as a Feature has it (RFC 7946, 3.2).
+/// The fault is the first in this order: the member is not there; its type; its coordinates from
+/// the first on.
 #[tactic(auto, unfolding(crate::specs::Given::geometry_of))]
-fn geometry_of<A: Allocator + Copy>(
+pub fn geometry_of<A: Allocator + Copy>(
     alloc: A,
     grid: &Grid,
     feature: &Value<'_, A>,
@@ -482,9 +485,9 @@ fn is_feature<A: Allocator>(value: &Value<'_, A>) -> bool
     }
 }
 
-/// A feature, or a geometry by itself.
+/// What a JSON value says of a feature, as `read_wished` has it of a text.
 #[tactic(auto, unfolding(crate::specs::Given::feature_in))]
-fn whole<A: Allocator + Copy>(
+pub fn feature_of<A: Allocator + Copy>(
     alloc: A,
     grid: &Grid,
     wished: Wished,
@@ -496,16 +499,6 @@ fn whole<A: Allocator + Copy>(
         feature(alloc, grid, wished, value)
     } else {
         bare_geometry(alloc, grid, value)
-    }
-}
-
-/// Why the reader of JSON read no value.
-fn unread(error: Error) -> Cause
-    ensures { result ≡ unread_cause error }
-{
-    match error {
-        Error::OutOfMemory => Cause::Json(JsonRefused::seen()),
-        Error::Invalid | Error::TooLong | Error::DuplicateKey => Cause::NotJson,
     }
 }
 
@@ -533,6 +526,7 @@ pub fn read_feature<A: Allocator + Copy>(
 
 /// Reads what a text says of a feature, as `read_feature` does, but looks only at what is wished:
 /// what is not is `None`, and no fault.
+#[tactic(auto, unfolding(crate::specs::Given::feature_read), using(crate::proofs::Unread::text_read, crate::proofs::Unread::text_fault))]
 pub fn read_wished<A: Allocator + Copy>(
     alloc: A,
     grid: &Grid,
@@ -542,8 +536,8 @@ pub fn read_wished<A: Allocator + Copy>(
     ensures { Reads grid.now wished text.now result }
 {
     let mut scratch = Scratch::new(alloc);
-    match Value::from_slice(alloc, text, &mut scratch) {
-        Ok(value) => whole(alloc, grid, wished, &value),
-        Err(error) => Err(FeatureFault::at(Member::Text, unread(error))),
+    match read_json(alloc, text, &mut scratch) {
+        Ok(value) => feature_of(alloc, grid, wished, &value),
+        Err(cause) => Err(FeatureFault::at(Member::Text, cause)),
     }
 }

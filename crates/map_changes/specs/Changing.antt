@@ -22,7 +22,7 @@ use Rattle.map_changes.specs.declared.targets.Target.{Target}
 use Rattle.map_changes.specs.declared.targets.Target.TheVariants as targets
 
 -- what a body says of a feature
-abbrev pub body_given : Result GivenData FeatureFault → Result GivenData ChangeFault
+abbrev pub body_given : {T : Type 0} → Result T FeatureFault → Result T ChangeFault
 body_given (Ok given) = Ok given
 body_given (Err fault) = Err (Feature fault)
 

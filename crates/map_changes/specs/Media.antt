@@ -13,11 +13,18 @@ is_type_byte b = not (b == 59) && not (b == 32)
 abbrev pub media_type : List ℕ → List ℕ
 media_type field = take (prefix_len is_type_byte field) field
 
+-- the type of JSON (RFC 8259, 11)
+unfoldable pub is_json_type : List ℕ → Bool
+is_json_type media = str_eq_ignore_ascii_case media (codes "application/json")
+
 -- the type of GeoJSON (RFC 7946, 12), or of JSON
 unfoldable pub is_document : List ℕ → Bool
 is_document media =
-    str_eq_ignore_ascii_case media (codes "application/geo+json")
-    || str_eq_ignore_ascii_case media (codes "application/json")
+    str_eq_ignore_ascii_case media (codes "application/geo+json") || is_json_type media
+
+-- a field names the type of JSON
+abbrev pub is_json : List ℕ → Bool
+is_json field = is_json_type (media_type field)
 
 -- the type of a part to be merged (RFC 7396, 4)
 unfoldable pub is_part : List ℕ → Bool

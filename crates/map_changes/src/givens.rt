@@ -40,8 +40,9 @@ fn class_in(layer: &Layer, given: Option<Name>) -> Result<Name, ChangeFault>
     }
 }
 
-/// The addition of a feature in a collection.
-pub(crate) fn added_by<A: Allocator>(layer: Layer, given: &Given<A>) -> Result<Edit, ChangeFault>
+/// The addition of a feature in a collection. `Id` where the feature has none; `Class` where it has
+/// none at `features`, or another one than the collection; then `Parts` and `Shape`.
+pub fn added_by<A: Allocator>(layer: Layer, given: &Given<A>) -> Result<Edit, ChangeFault>
     ensures { result ≡ added_by layer (given_view given.now) }
 {
     let Some(id) = given.id else {

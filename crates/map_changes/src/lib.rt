@@ -13,5 +13,8 @@ mod targets;
 
 pub use edits::{ChangeRequest, Edit, Method};
 pub use faults::ChangeFault;
+pub use givens::added_by;
+pub use media::{is_json, media_type};
 pub use paths::{Methods, methods_of};
-pub use reading::read_change;
+pub use reading::{FOR_ADDING, read_change};
+pub use shapes::shape_in;

@@ -2,7 +2,7 @@
 
 ghost use Rattle.std.specs.Prelude.{◌≡◌, ◌≤◌, length};
 ghost use Rattle.std.specs.List.{prefix_len};
-ghost use Rattle.map_changes.specs.Media.{is_document, is_part, is_read_by, is_type_byte, media_type};
+ghost use Rattle.map_changes.specs.Media.{is_document, is_json, is_json_type, is_part, is_read_by, is_type_byte, media_type};
 
 use crate::edits::Method;
 
@@ -22,11 +22,26 @@ fn type_len(field: &[u8]) -> usize
     field.iter().take_while(|byte| is_type_byte(**byte)).count()
 }
 
-/// The type that a field `content-type` names, without its parameters.
-fn media_type(field: &[u8]) -> &[u8]
+/// The type that a field `content-type` names (RFC 9110, 8.3), without its parameters.
+pub fn media_type(field: &[u8]) -> &[u8]
     ensures { result.now ≡ media_type field.now }
 {
     &field[..type_len(field)]
+}
+
+/// Whether a type is that of JSON (RFC 8259, 11).
+#[tactic(auto, unfolding(crate::specs::Media::is_json_type))]
+fn is_json_type(media: &[u8]) -> bool
+    ensures { result ≡ is_json_type media.now }
+{
+    media.eq_ignore_ascii_case(b"application/json")
+}
+
+/// Whether a field `content-type` names the type of JSON (RFC 8259, 11), with parameters or without.
+pub fn is_json(field: &[u8]) -> bool
+    ensures { result ≡ is_json field.now }
+{
+    is_json_type(media_type(field))
 }
 
 /// Whether a type is that of GeoJSON (RFC 7946, 12), or of JSON.
@@ -34,8 +49,7 @@ fn media_type(field: &[u8]) -> &[u8]
 fn is_document(media: &[u8]) -> bool
     ensures { result ≡ is_document media.now }
 {
-    media.eq_ignore_ascii_case(b"application/geo+json")
-        || media.eq_ignore_ascii_case(b"application/json")
+    media.eq_ignore_ascii_case(b"application/geo+json") || is_json_type(media)
 }
 
 /// Whether a type is that of a part to be merged (RFC 7396, 4).

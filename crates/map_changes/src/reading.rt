@@ -18,7 +18,7 @@ use map_asks::{Layer, is_empty_query};
 use std::alloc::Allocator;
 
 /// What is looked at of a feature to add.
-pub(crate) const FOR_ADDING: Wished = Wished {
+pub const FOR_ADDING: Wished = Wished {
     id: true,
     class: true,
     others: false,

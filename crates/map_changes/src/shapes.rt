@@ -51,8 +51,9 @@ fn path_shape(role: Role, points: &[Point]) -> Result<Shape, ChangeFault>
     }
 }
 
-/// The one shape that the paths of a geometry are.
-pub(crate) fn shape_in<A: Allocator>(paths: &[Path<A>]) -> Result<Shape, ChangeFault>
+/// The one shape that the paths of a geometry are. `Parts` where that is not one point, one line of
+/// two points or one ring without holes; `Shape` where its points are no shape.
+pub fn shape_in<A: Allocator>(paths: &[Path<A>]) -> Result<Shape, ChangeFault>
     ensures { result ≡ shape_in (map path_view paths.now) }
 {
     match paths {
