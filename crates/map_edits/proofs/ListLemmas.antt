@@ -1,4 +1,4 @@
-use Rattle.std.proofs.Common.{◌≤◌, List, [], ◌∷◌, length, arith}
+use Rattle.std.proofs.Common.{◌≤◌, [], ◌∷◌, length, arith}
 use Rattle.features.specs.declared.rows.Change.{Change}
 use Rattle.judging.specs.Judging.{AreDistinct}
 use Rattle.plain_world.specs.declared.settings.TheConstants.{CHANGE_LIMIT}

@@ -1,4 +1,5 @@
 pub mod Committing
 pub mod Members
+pub mod Faults
 pub mod Telling
 pub mod Editing

@@ -9,8 +9,9 @@ use map_answers::{put, put_number, put_string};
 use memory::NoMemory;
 use std::alloc::Allocator;
 
+/// Appends an index as one more part of a JSON pointer (RFC 6901, 3).
 #[tactic(auto, unfolding(crate::specs::Members::index_part))]
-fn put_index_part<A: Allocator>(text: &mut Vec<u8, A>, n: usize) -> Result<(), NoMemory>
+pub fn put_index_part<A: Allocator>(text: &mut Vec<u8, A>, n: usize) -> Result<(), NoMemory>
     ensures { OnOk result (text.new.items ≡ text.old.items ++ index_part n) }
 {
     put(text, b"/")?;
@@ -76,7 +77,7 @@ fn put_rule<A: Allocator>(text: &mut Vec<u8, A>, rule: &Option<Name>) -> Result<
 
 /// Appends the member that tells of the rule that decides.
 #[tactic(auto, unfolding(crate::specs::Members::rule_member))]
-pub(crate) fn put_rule_member<A: Allocator>(
+pub fn put_rule_member<A: Allocator>(
     text: &mut Vec<u8, A>,
     rule: &Option<Name>,
 ) -> Result<(), NoMemory>
@@ -88,10 +89,7 @@ pub(crate) fn put_rule_member<A: Allocator>(
 
 /// Appends the member that tells of the version that a feature has.
 #[tactic(auto, unfolding(crate::specs::Members::current_member))]
-pub(crate) fn put_current_member<A: Allocator>(
-    text: &mut Vec<u8, A>,
-    version: u64,
-) -> Result<(), NoMemory>
+pub fn put_current_member<A: Allocator>(text: &mut Vec<u8, A>, version: u64) -> Result<(), NoMemory>
     ensures { OnOk result (text.new.items ≡ text.old.items ++ current_member version) }
 {
     put(text, b",\"current\":")?;

@@ -3,7 +3,7 @@
 ghost use Rattle.std.specs.Prelude.{◌≡◌, IfOk, None, codes};
 ghost use Rattle.map_answers.specs.Answers.{answer_data};
 ghost use Rattle.map_answers.specs.Problems.{problem_data};
-ghost use Rattle.map_edits.specs.Telling.{added_data, applied_data, denied_data, done_data, outcome_data, reply_data, stale_data};
+ghost use Rattle.map_edits.specs.Telling.{added_data, applied_data, denied_data, done_data, outcome_data, reply_data, stale_data, unmade_data};
 ghost use Rattle.map_sessions.specs.Refusals.{refusal_data};
 
 use crate::committing::Outcome;
@@ -117,10 +117,28 @@ fn plain<A: Allocator>(alloc: A, status: Status, code: &'static str) -> Result<A
 }
 
 /// The answer where the session does not do what it was asked.
-fn refused<A: Allocator>(alloc: A, refusal: &Refusal) -> Result<Answer<A>, NoMemory>
+pub fn refused<A: Allocator>(alloc: A, refusal: &Refusal) -> Result<Answer<A>, NoMemory>
     ensures { IfOk result (λ answer. answer_data answer ≡ refusal_data refusal.now) }
 {
     problem_answer(alloc, &problem_of(refusal))
+}
+
+/// What a list that was not judged is answered: 507 with X11 where there are as many features as
+/// there may be, 503 with S4 or S5 where the index is full, else as a search that got this reply.
+#[tactic(auto, unfolding(crate::specs::Telling::unmade_data))]
+pub fn unmade_answer<A: Allocator>(alloc: A, reply: Reply) -> Result<Answer<A>, NoMemory>
+    ensures { IfOk result (λ answer. answer_data answer ≡ unmade_data reply) }
+{
+    match reply {
+        Reply::Failed(WorldFault::StoreFull) => plain(alloc, Status::InsufficientStorage, "X11"),
+        Reply::Failed(WorldFault::Tree(TreeFault::Full)) => {
+            plain(alloc, Status::Unavailable, "S4")
+        }
+        Reply::Failed(WorldFault::Tree(TreeFault::TooHigh)) => {
+            plain(alloc, Status::Unavailable, "S5")
+        }
+        other => refused(alloc, &Refusal::Said(other)),
+    }
 }
 
 /// The answer to a reply to a change.
@@ -138,14 +156,7 @@ fn reply_answer<A: Allocator + Copy>(
         Reply::Absent(_) => plain(alloc, Status::NotFound, "absent"),
         Reply::Exists(_) => plain(alloc, Status::Conflict, "exists"),
         Reply::Stale(current, _) => stale(alloc, current),
-        Reply::Failed(WorldFault::StoreFull) => plain(alloc, Status::InsufficientStorage, "X11"),
-        Reply::Failed(WorldFault::Tree(TreeFault::Full)) => {
-            plain(alloc, Status::Unavailable, "S4")
-        }
-        Reply::Failed(WorldFault::Tree(TreeFault::TooHigh)) => {
-            plain(alloc, Status::Unavailable, "S5")
-        }
-        other => refused(alloc, &Refusal::Said(other)),
+        other => unmade_answer(alloc, other),
     }
 }
 
@@ -158,7 +169,7 @@ pub(crate) fn outcome_answer<A: Allocator + Copy>(
     ensures { IfOk result (λ answer. answer_data answer ≡ outcome_data base.now outcome) }
 {
     match outcome {
-        Outcome::Fault(fault) => fault_answer(alloc, &fault),
+        Outcome::Fault(fault) => fault_answer(alloc, b"", &fault),
         Outcome::Refused(refusal) => refused(alloc, &refusal),
         Outcome::Replied(edit, reply) => reply_answer(alloc, base, &edit, reply),
     }
