@@ -1,0 +1,4 @@
+pub mod Calls
+pub mod FaultCodes
+pub mod Queries
+pub mod Askings
