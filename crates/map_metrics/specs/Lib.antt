@@ -1,0 +1,4 @@
+pub mod Requests
+pub mod Times
+pub mod Counters
+pub mod Metrics
