@@ -115,8 +115,8 @@ grid_part (Some grid) = grid_text grid
 -- nothing is said of HTTP
 abbrev pub is_silent : WebData → Bool
 is_silent web =
-    is_none web.anonymous && is_none web.public && nat_eq (length web.collections) 0
-    && nat_eq (length web.keys) 0 && not web.trusted_field
+    is_none web.anonymous && is_none web.metrics && is_none web.public
+    && nat_eq (length web.collections) 0 && nat_eq (length web.keys) 0 && not web.trusted_field
 
 abbrev pub collections_word : ℕ → List ℕ
 collections_word count = if nat_eq count 1 then codes " collection" else codes " collections"
@@ -134,17 +134,22 @@ abbrev pub asker_part : Option (List ℕ) → List ℕ
 asker_part None = []
 asker_part (Some name) = codes ", requests without a name are " ++ (name ++ codes "'s")
 
+abbrev pub metrics_part : Option (List ℕ) → List ℕ
+metrics_part None = []
+metrics_part (Some name) = codes ", metrics are for " ++ name
+
 abbrev pub field_part : Bool → List ℕ
 field_part trusted = if trusted then codes ", the field landmap-subject is trusted" else []
 
 -- what is said of HTTP: how many collections and keys there are, what links begin with, whose
--- requests are that do not say who asks, and whether a field is trusted that says it
+-- requests are that do not say who asks, who may read the metrics, and whether a field is trusted
+-- that says who asks
 abbrev pub web_text : WebData → List ℕ
 web_text web =
     codes "http: " ++ (decimal (length web.collections)
     ++ (collections_word (length web.collections) ++ (keys_part (length web.keys)
     ++ (links_part web.public ++ (asker_part web.anonymous
-    ++ (field_part web.trusted_field ++ codes "\n"))))))
+    ++ (metrics_part web.metrics ++ (field_part web.trusted_field ++ codes "\n")))))))
 
 abbrev pub web_part : WebData → List ℕ
 web_part web = if is_silent web then [] else web_text web

@@ -51,6 +51,7 @@ pub record ConfigData : Type 0 where
 abbrev pub web_data : {A : Type 0} → Web A → WebData
 web_data w = record {
   anonymous = w.anonymous;
+  metrics = w.metrics;
   public = option_map (λ text. string_bytes text) w.public;
   collections = w.collections.items;
   keys = w.keys.items;
@@ -78,6 +79,7 @@ key_text member_names.Subjects = codes "subjects"
 key_text member_names.Policies = codes "policies"
 key_text member_names.Grid = codes "grid"
 key_text member_names.Anonymous = codes "anonymous"
+key_text member_names.Metrics = codes "metrics"
 key_text member_names.Public = codes "public"
 key_text member_names.Collections = codes "collections"
 key_text member_names.Keys = codes "keys"
@@ -160,8 +162,8 @@ policies_in d = of_policies (document_in d)
 
 abbrev pub config_keys : List MemberName
 config_keys = member_names.Subjects ∷ member_names.Policies ∷ member_names.Grid
-    ∷ member_names.Anonymous ∷ member_names.Public ∷ member_names.Collections ∷ member_names.Keys
-    ∷ member_names.TrustedField ∷ []
+    ∷ member_names.Anonymous ∷ member_names.Metrics ∷ member_names.Public
+    ∷ member_names.Collections ∷ member_names.Keys ∷ member_names.TrustedField ∷ []
 
 abbrev pub grid_keys : List MemberName
 grid_keys = member_names.Origin ∷ member_names.Decimals ∷ member_names.Between ∷ []
@@ -220,9 +222,9 @@ grid_member None = Ok None
 grid_member (Some d) = grid_in d >>= λ grid. Ok (Some grid)
 
 -- the subject under the key, if there is one
-abbrev pub anonymous_member : List Subject → Option Data → Result (Option (List ℕ)) ConfigFault
-anonymous_member subjects None = Ok None
-anonymous_member subjects (Some d) = ok_or (subject_at subjects d) faults.Form >>= λ name.
+abbrev pub subject_member : List Subject → Option Data → Result (Option (List ℕ)) ConfigFault
+subject_member subjects None = Ok None
+subject_member subjects (Some d) = ok_or (subject_at subjects d) faults.Form >>= λ name.
     Ok (Some name)
 
 -- what links begin with, if something is under the key
@@ -282,12 +284,14 @@ trusted_member keys under = flag_in under >>= λ trusted. if trusted && not (nat
 -- what a configuration with these subjects says of HTTP
 unfoldable pub web_in : List Subject → Data → Result WebData ConfigFault
 web_in subjects d =
-    anonymous_member subjects (value_of member_names.Anonymous d) >>= λ anonymous. public_member
-    (value_of member_names.Public d) >>= λ public.
+    subject_member subjects (value_of member_names.Anonymous d) >>= λ anonymous.
+    subject_member subjects (value_of member_names.Metrics d) >>= λ metrics.
+    public_member (value_of member_names.Public d) >>= λ public.
     collections_member (value_of member_names.Collections d) >>= λ collections.
     keys_member subjects (value_of member_names.Keys d) >>= λ keys.
     trusted_member keys (value_of member_names.TrustedField d) >>= λ trusted_field. Ok (record {
       anonymous = anonymous;
+      metrics = metrics;
       public = public;
       collections = collections;
       keys = keys;

@@ -139,6 +139,7 @@ is_wrong_member config key d =
     if bytes_eq key (codes "subjects") then is_none (as_array d)
     else if bytes_eq key (codes "grid") then is_err (grid_in d)
     else if bytes_eq key (codes "anonymous") then not (is_subject_in config d)
+    else if bytes_eq key (codes "metrics") then not (is_subject_in config d)
     else if bytes_eq key (codes "public") then is_none (public_at d)
     else if bytes_eq key (codes "collections") then is_no_list d
     else if bytes_eq key (codes "keys") then is_no_key_list d

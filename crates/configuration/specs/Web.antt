@@ -18,6 +18,7 @@ use Rattle.configuration.specs.declared.web.TheConstants.{COLLECTION_LIMIT, PUBL
 -- what is said of HTTP, as plain data
 pub record WebData : Type 0 where
   pub anonymous : Option (List ℕ)
+  pub metrics : Option (List ℕ)
   pub public : Option (List ℕ)
   pub collections : List (List ℕ)
   pub keys : List Key

@@ -18,11 +18,12 @@ use policy_text::{Document, document_of_value};
 use serde_json::Value;
 use std::alloc::{Allocator, Global};
 
-pub(crate) const CONFIG_KEYS: [MemberName; 8] = [
+pub(crate) const CONFIG_KEYS: [MemberName; 9] = [
     MemberName::Subjects,
     MemberName::Policies,
     MemberName::Grid,
     MemberName::Anonymous,
+    MemberName::Metrics,
     MemberName::Public,
     MemberName::Collections,
     MemberName::Keys,
@@ -139,16 +140,17 @@ fn config_in<A: Allocator + Copy>(alloc: A, value: &Value) -> Result<Config<A>, 
 }
 
 /// Reads the configuration that a JSON text (RFC 8259) spells: an object with the keys `subjects`
-/// and `policies`, and perhaps `grid`, `anonymous`, `public`, `collections`, `keys` and
-/// `trusted-field`.
+/// and `policies`, and perhaps `grid`, `anonymous`, `metrics`, `public`, `collections`, `keys`
+/// and `trusted-field`.
 ///
 /// `subjects` is an array of 1 to 64 objects with distinct names. Each has the keys `name`,
 /// `office` and `role`, which are names, and optionally `steward`, true or false (default false).
 /// `policies` is a policy document. `grid` is an object: `origin`, an array of two decimal texts;
 /// `decimals`, 0 to 9; and optionally `between`, `refuse` or `nearest` (default `refuse`).
-/// `anonymous` is the name of one of the subjects. `public` is `http://` or `https://` with 1 to 200
-/// bytes of visible ASCII behind it, none of which is `"`, `#`, `<`, `>`, `?` or `\`, and the last no
-/// slash. `collections` is an array of at most 64 distinct names, none of which is `features`.
+/// `anonymous` and `metrics` are each the name of one of the subjects. `public` is `http://` or
+/// `https://` with 1 to 200 bytes of visible ASCII behind it, none of which is `"`, `#`, `<`, `>`,
+/// `?` or `\`, and the last no slash. `collections` is an array of at most 64 distinct names, none of
+/// which is `features`.
 /// `keys` is an array of at most 1,024 distinct objects: `subject`, the name of one of the subjects,
 /// and `sha256`, 64 hexadecimal digits. `trusted-field` is true or false (default false), and not
 /// true beside a key.

@@ -89,6 +89,11 @@ fn find_web<A: Allocator>(value: &Value, place: &mut Vec<PathPart, A>) -> Result
             return place.try_push(PathPart::Member("anonymous"));
         }
     }
+    if let Some(name) = value_in(value, MemberName::Metrics) {
+        if !is_subject_in(value, name) {
+            return place.try_push(PathPart::Member("metrics"));
+        }
+    }
     if let Some(public) = value_in(value, MemberName::Public) {
         if public_at(public).is_none() {
             return place.try_push(PathPart::Member("public"));

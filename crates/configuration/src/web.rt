@@ -5,7 +5,7 @@ ghost use Rattle.std.specs.List.{list_all, list_any};
 ghost use Rattle.std.specs.Option.{ok_or};
 ghost use Rattle.serde_json.specs.View.{items_view, view};
 ghost use Rattle.configuration.specs.ConfigFaults.{Gives};
-ghost use Rattle.configuration.specs.Configs.{anonymous_member, collections_in, collections_member, names_in, public_member, web_data, web_in};
+ghost use Rattle.configuration.specs.Configs.{collections_in, collections_member, names_in, public_member, subject_member, web_data, web_in};
 ghost use Rattle.configuration.specs.Web.{are_collections, are_distinct, behind_scheme, is_beginning, is_host_byte, is_host, name_at, public_at, subject_at};
 ghost use Rattle.configuration.specs.declared.config_faults.ConfigFault.TheVariants.{Form};
 
@@ -32,6 +32,8 @@ pub(crate) const ALL_FEATURES: &str = "features";
 pub struct Web<A: Allocator> {
     /// The subject of requests that do not say who asks; `None` if those are refused.
     pub anonymous: Option<Name>,
+    /// The subject that may read the metrics; `None` if there is no such page.
+    pub metrics: Option<Name>,
     /// What links begin with; `None` for the address at which HTTP is answered.
     pub public: Option<String<A>>,
     /// The classes that are collections.
@@ -58,8 +60,8 @@ fn subject_at(subjects: &Subjects, value: &Value) -> Option<Name>
 }
 
 /// The subject under the key, if there is one.
-fn anonymous_member(subjects: &Subjects, value: Option<&Value>) -> Result<Option<Name>, ConfigFault>
-    ensures { result ≡ anonymous_member subjects.now (option_map (λ v. view v.now) value.entry) }
+fn subject_member(subjects: &Subjects, value: Option<&Value>) -> Result<Option<Name>, ConfigFault>
+    ensures { result ≡ subject_member subjects.now (option_map (λ v. view v.now) value.entry) }
 {
     let Some(value) = value else {
         return Ok(None);
@@ -232,13 +234,15 @@ pub(crate) fn web_in<A: Allocator + Copy>(
 ) -> Result<Web<A>, ConfigFault>
     ensures { Gives web_data result (web_in subjects.now (view value.now)) }
 {
-    let anonymous = anonymous_member(subjects, value_in(value, MemberName::Anonymous))?;
+    let anonymous = subject_member(subjects, value_in(value, MemberName::Anonymous))?;
+    let metrics = subject_member(subjects, value_in(value, MemberName::Metrics))?;
     let public = public_member(alloc, value_in(value, MemberName::Public))?;
     let collections = collections_member(alloc, value_in(value, MemberName::Collections))?;
     let keys = keys_member(alloc, subjects, value_in(value, MemberName::Keys))?;
     let trusted_field = trusted_member(keys.as_slice(), value_in(value, MemberName::TrustedField))?;
     Ok(Web {
         anonymous,
+        metrics,
         public,
         collections,
         keys,

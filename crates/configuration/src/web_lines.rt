@@ -14,6 +14,7 @@ fn is_silent<A: Allocator>(web: &Web<A>) -> bool
     ensures { result ≡ is_silent (web_data web.now) }
 {
     web.anonymous.is_none()
+        && web.metrics.is_none()
         && web.public.is_none()
         && web.collections.is_empty()
         && web.keys.is_empty()
@@ -93,6 +94,26 @@ impl fmt::Display for AskerPart {
     }
 }
 
+/// Who may read the metrics, as it is told.
+#[derive(Clone, Copy)]
+struct MetricsPart {
+    metrics: Option<Name>,
+}
+
+impl fmt::Display for MetricsPart {
+    ghost use Rattle.std.specs.Prelude.{Some};
+    ghost use Rattle.configuration.specs.Checking.{metrics_part};
+
+    ghost output = { λ part. Some (metrics_part part.metrics) };
+
+    fn fmt<W: fmt::Write>(&self, f: &mut fmt::Formatter<W>) -> fmt::Result {
+        match self.metrics {
+            Some(name) => write!(f, ", metrics are for {name}"),
+            None => Ok(()),
+        }
+    }
+}
+
 /// That a field is trusted, as it is told.
 fn field_part(trusted: bool) -> &'static str
     ensures { result.now ≡ field_part trusted }
@@ -124,7 +145,7 @@ impl<A: Allocator> fmt::Display for WebLine<'_, A> {
         let count = self.web.collections.len();
         write!(
             f,
-            "http: {}{}{}{}{}{}\n",
+            "http: {}{}{}{}{}{}{}\n",
             count,
             collections_word(count),
             KeysPart {
@@ -133,6 +154,9 @@ impl<A: Allocator> fmt::Display for WebLine<'_, A> {
             LinksPart { web: self.web },
             AskerPart {
                 anonymous: self.web.anonymous
+            },
+            MetricsPart {
+                metrics: self.web.metrics
             },
             field_part(self.web.trusted_field)
         )

@@ -31,6 +31,8 @@ fn is_wrong_member(config: &Value, key: &str, value: &Value) -> bool
         grid_in(value).is_none()
     } else if key == "anonymous" {
         !is_subject_in(config, value)
+    } else if key == "metrics" {
+        !is_subject_in(config, value)
     } else if key == "public" {
         public_at(value).is_none()
     } else if key == "collections" {

@@ -21,6 +21,7 @@ built_in_config = record {
   grid = None;
   web = record {
     anonymous = None;
+    metrics = None;
     public = None;
     collections = [];
     keys = [];
