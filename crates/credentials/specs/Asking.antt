@@ -11,10 +11,13 @@ use Rattle.credentials.specs.declared.keys.Key.{Key}
 abbrev pub is_key : List ℕ → List ℕ → Key → Bool
 is_key name digest key = pointwise nat_eq key.subject name && pointwise nat_eq key.digest digest
 
--- the name, where one of the keys is of this name and of the secret's SHA-256
+-- one of the keys is of this name and of the secret's SHA-256
+abbrev pub has_key : List Key → List ℕ → List ℕ → Bool
+has_key keys name secret = list_any (is_key name (sha256 secret)) keys
+
+-- the name, where it has a key of this secret
 abbrev pub let_in : List Key → Credentials → Option (List ℕ)
-let_in keys said =
-    if list_any (is_key said.name (sha256 said.secret)) keys then Some said.name else None
+let_in keys said = if has_key keys said.name said.secret then Some said.name else None
 
 -- the name of those who ask by a field `authorization`
 abbrev pub asker_of : List Key → List ℕ → Option (List ℕ)

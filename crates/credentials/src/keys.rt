@@ -2,9 +2,8 @@
 
 ghost use Rattle.std.specs.Prelude.{◌≡◌, nat_eq};
 ghost use Rattle.std.specs.Cmp.Lexicographic.{pointwise};
-ghost use Rattle.std.specs.List.{list_any};
 ghost use Rattle.sha2.specs.Sha256.{sha256};
-ghost use Rattle.credentials.specs.Asking.{is_key};
+ghost use Rattle.credentials.specs.Asking.{has_key, is_key};
 
 use features::Name;
 use sha2::{Digest, Sha256};
@@ -45,8 +44,8 @@ fn is_key(name: &Name, digest: &[u8; 32], key: &Key) -> bool
 }
 
 /// Whether one of the keys is of this name and of the digest of this secret.
-pub(crate) fn has_key(keys: &[Key], name: &Name, secret: &[u8]) -> bool
-    ensures { result ≡ list_any (is_key name.now (sha256 secret.now)) keys.now }
+pub fn has_key(keys: &[Key], name: &Name, secret: &[u8]) -> bool
+    ensures { result ≡ has_key keys.now name.now secret.now }
 {
     let digest = digest_of(secret);
     keys.iter().any(|key| is_key(name, &digest, key))

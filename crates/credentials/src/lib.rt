@@ -6,5 +6,5 @@ mod keys;
 mod spelling;
 
 pub use crate::asking::asker_of;
-pub use crate::keys::{Key, digest_of};
+pub use crate::keys::{Key, digest_of, has_key};
 pub use crate::spelling::FIELD_LIMIT;

@@ -8,7 +8,7 @@ use Rattle.line_streams.specs.declared.streams.ServeFault.{ServeFault}
 use Rattle.session_lines.specs.Desks.{Answers, Desk, desk}
 use Rattle.line_streams.specs.Lines.{is_too_long}
 use Rattle.session_lines.specs.Replies.{SaidData}
-use Rattle.session_lines.specs.Services.{Call}
+use Rattle.session_lines.specs.Services.{Call, no_keys}
 use Rattle.scripts.specs.Services.{ServesCall, solo_subject}
 use Rattle.session_lines.specs.Serving.{Calls, IsPassedOver, DeskTells, Replies}
 use Rattle.scripts.specs.States.{IsIdle, SoloState}
@@ -43,29 +43,29 @@ module _ {S T N : Type 0} (see : S → T) (name : S → N) (subject_of : T → O
   abbrev seen : Desk S → Desk T
   seen d = desk d.staged (see d.service)
 
-  line_told : (text : List ℕ) (old new : Desk S) (said : List ℕ) (next : Next) → DeskTells asks lent text old new said next → DeskTells subject_of shown text (seen old) (seen new) said next
+  line_told : (text : List ℕ) (old new : Desk S) (said : List ℕ) (next : Next) → DeskTells no_keys asks lent text old new said next → DeskTells no_keys subject_of shown text (seen old) (seen new) said next
   line_told text old new said next h = go (is_too_long text) h
     where
-      go : (b : Bool) → MatchBool b (IsPassedOver old new said next) (Replies asks lent text old new said next)
-          → MatchBool b (IsPassedOver (seen old) (seen new) said next) (Replies subject_of shown text (seen old) (seen new) said next)
+      go : (b : Bool) → MatchBool b (IsPassedOver old new said next) (Replies no_keys asks lent text old new said next)
+          → MatchBool b (IsPassedOver (seen old) (seen new) said next) (Replies no_keys subject_of shown text (seen old) (seen new) said next)
       go true h = (ap seen h.0, h.1, h.2)
       go false h = record { reply = h.reply; answers = line_seen see subject_of lent shown shows text old new h.reply h.answers; shows = h.shows; ends = h.ends }
 
-  run_seen : {O : Type 0} (r : Result O ServeFault) (old new : Desk S) (input left a b : Option (List ℕ)) → Ran (DeskTells asks lent) r old new input left a b
-      → Ran (DeskTells subject_of shown) r (seen old) (seen new) input left a b
-  run_seen r old new input left a b run = ran_as seen (DeskTells asks lent) (DeskTells subject_of shown) line_told r old new input left a b run
+  run_seen : {O : Type 0} (r : Result O ServeFault) (old new : Desk S) (input left a b : Option (List ℕ)) → Ran (DeskTells no_keys asks lent) r old new input left a b
+      → Ran (DeskTells no_keys subject_of shown) r (seen old) (seen new) input left a b
+  run_seen r old new input left a b run = ran_as seen (DeskTells no_keys asks lent) (DeskTells no_keys subject_of shown) line_told r old new input left a b run
 
   calls_name : (calls : List (Call × SaidData)) (old new : S) → Calls lent calls old new → name new ≡ name old
-  calls_name calls old new h = calls_keep asks lent (λ (a b : S). name b ≡ name a) (λ s. refl) (λ a b c first more. more ∙ first) named calls old new h
+  calls_name calls old new h = calls_keep no_keys asks lent (λ (a b : S). name b ≡ name a) (λ s. refl) (λ a b c first more. more ∙ first) named calls old new h
 
   -- a run; afterwards the world is as the loan leaves it
   pub run_shown : {O : Type 0} (r : Result O ServeFault) (old new : S) (staged : List Change) (begins ends : T) (input left a b : Option (List ℕ))
       → ((calls : List (Call × SaidData)) × Calls lent calls old new) → see old ≡ begins → (name new ≡ name old → see new ≡ ends)
-      → Ran (DeskTells asks lent) r (desk [] old) (desk staged new) input left a b
-      → Ran (DeskTells subject_of shown) r (desk [] begins) (desk staged ends) input left a b
+      → Ran (DeskTells no_keys asks lent) r (desk [] old) (desk staged new) input left a b
+      → Ran (DeskTells no_keys subject_of shown) r (desk [] begins) (desk staged ends) input left a b
   run_shown r old new staged begins ends input left a b called stands lent_ends run =
-      subst (λ (s : T). Ran (DeskTells subject_of shown) r (desk [] begins) (desk staged s) input left a b) (lent_ends (calls_name called.0 old new called.1))
-      (subst (λ (s : T). Ran (DeskTells subject_of shown) r (desk [] s) (desk staged (see new)) input left a b) stands
+      subst (λ (s : T). Ran (DeskTells no_keys subject_of shown) r (desk [] begins) (desk staged s) input left a b) (lent_ends (calls_name called.0 old new called.1))
+      (subst (λ (s : T). Ran (DeskTells no_keys subject_of shown) r (desk [] s) (desk staged (see new)) input left a b) stands
       (run_seen r (desk [] old) (desk staged new) input left a b run))
 
   -- what each call keeps, a run keeps
@@ -75,7 +75,7 @@ module _ {S T N : Type 0} (see : S → T) (name : S → N) (subject_of : T → O
   run_keeps Kept same chain each old new begins ends called stands lent_ends =
       subst (λ (s : T). Kept begins s) (lent_ends (calls_name called.0 old new called.1))
       (subst (λ (s : T). Kept s (see new)) stands
-      (calls_keep asks lent (λ (a b : S). Kept (see a) (see b)) (λ s. same (see s)) (λ a b c first more. chain (see a) (see b) (see c) first more)
+      (calls_keep no_keys asks lent (λ (a b : S). Kept (see a) (see b)) (λ s. same (see s)) (λ a b c first more. chain (see a) (see b) (see c) first more)
       (λ call a b said h. each call (see a) (see b) said (shows call a b said h)) called.0 old new called.1))
 
 -- a run leaves no search and no transaction open, if none was open before it

@@ -36,6 +36,7 @@ use Rattle.session_lines.specs.Replies.{SaidData}
 use Rattle.scripts.specs.Scripts.{Script, Ends, IsRefused, LabelTells, LineTells, ObeysStep, OnlyTells, Opens, SessionAnswers, SessionTells, Steps, TakesPlain, TakesStep, desk_of, fresh, is_skipped, keeps_seat, place, plainly, script, with_label}
 use Rattle.line_words.specs.Labels.{parts_of}
 use Rattle.scripts.specs.Services.{ServesCall, is_overrun_reply, solo_subject}
+use Rattle.session_lines.specs.Services.{no_keys}
 use Rattle.session_lines.specs.Serving.{IsPassedOver, DeskTells as AloneTells, Replies}
 use Rattle.session_lines.specs.Desks.{Desk}
 use Rattle.scripts.specs.States.{IsAtRest, IsIdle, SessionIn, SessionState, SoloState, session_in}
@@ -335,10 +336,10 @@ line_rests =
     (λ label text old new said h. (session_moves text (session_in (slice_index_or (with_label label old.sessions) (place label old.sessions) (fresh label)) old.world) (session_in h.session new.world) h.reply h.answers).rests)
 
 -- the same for a session by itself
-pub alone_rests : (text : List ℕ) (old new : Desk SoloState) (said : List ℕ) (next : Next) → AloneTells solo_subject ServesCall text old new said next → IsAtRest old.service.world → IsAtRest new.service.world
+pub alone_rests : (text : List ℕ) (old new : Desk SoloState) (said : List ℕ) (next : Next) → AloneTells no_keys solo_subject ServesCall text old new said next → IsAtRest old.service.world → IsAtRest new.service.world
 alone_rests text old new said next h still = go (is_too_long text) h
   where
-    go : (b : Bool) → MatchBool b (IsPassedOver old new said next) (Replies solo_subject ServesCall text old new said next) → IsAtRest new.service.world
+    go : (b : Bool) → MatchBool b (IsPassedOver old new said next) (Replies no_keys solo_subject ServesCall text old new said next) → IsAtRest new.service.world
     go true d = subst (λ (d : Desk SoloState). IsAtRest d.service.world) (sym d.0) still
     go false d =
         (line_keeps solo_subject ServesCall (λ a b. Rests a.world b.world) (λ s. rests_none s.world) call_rests text old new d.reply d.answers still).0

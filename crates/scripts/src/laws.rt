@@ -5,6 +5,7 @@ ghost use Rattle.audit_trail.specs.declared.trails.TheConstants.{FIRST_LIMIT};
 ghost use Rattle.decision.specs.Deciders.{DeciderData};
 ghost use Rattle.scripts.specs.Scripts.{LineTells, Script};
 ghost use Rattle.scripts.specs.Services.{ServesCall, solo_subject};
+ghost use Rattle.session_lines.specs.Services.{no_keys};
 ghost use Rattle.session_lines.specs.Serving.{DeskTells as AloneTells};
 ghost use Rattle.session_lines.specs.Desks.{Desk};
 ghost use Rattle.scripts.specs.States.{IsAtRest, IsIdle, SoloState};
@@ -31,7 +32,7 @@ pub fn lines_leave_worlds_at_rest()
     ensures line { (text : List ℕ) (old new : Script WorldData) (said : List ℕ)
         → LineTells text old new said → IsAtRest old.world → IsAtRest new.world }
     ensures alone { (text : List ℕ) (old new : Desk SoloState) (said : List ℕ) (next : Next)
-        → AloneTells solo_subject ServesCall text old new said next → IsAtRest old.service.world
+        → AloneTells no_keys solo_subject ServesCall text old new said next → IsAtRest old.service.world
         → IsAtRest new.service.world }
 {}
 

@@ -5,6 +5,7 @@ ghost use Rattle.std.specs.Io.KnownBytes.{Appends};
 ghost use Rattle.features.specs.declared.rows.Change.{Change};
 ghost use Rattle.scripts.specs.Indexed.{ServesThere, asks_for};
 ghost use Rattle.scripts.specs.Services.{ServesCall, solo_subject};
+ghost use Rattle.session_lines.specs.Services.{no_keys};
 ghost use Rattle.session_lines.specs.Serving.{IsServedText, DeskTells};
 ghost use Rattle.scripts.specs.States.{IsIdle, solo};
 ghost use Rattle.session_lines.specs.Desks.{desk};
@@ -31,14 +32,14 @@ pub fn serve_world<A: Allocator + Copy, R: Read, W: Write>(
     ensures served_text { (seat : Option ℕ)
         × OnOk result (IfSome (R.remaining reader.old)
         (λ input. (said : List ℕ) × Appends (W.contents writer.old) (W.contents writer.new) said
-        × IsServedText solo_subject ServesCall (solo world.old.plain None) input
+        × IsServedText no_keys solo_subject ServesCall (solo world.old.plain None) input
         (solo world.new.plain seat) said)) }
     ensures ran { (staged : List Change) × (seat : Option ℕ)
-        × Ran (DeskTells solo_subject ServesCall) result (desk [] (solo world.old.plain None))
+        × Ran (DeskTells no_keys solo_subject ServesCall) result (desk [] (solo world.old.plain None))
         (desk staged (solo world.new.plain seat)) (R.remaining reader.old) (R.remaining reader.new)
         (W.contents writer.old) (W.contents writer.new) }
     ensures runs { (staged : List Change) × (seat : Option ℕ)
-        × Ran (DeskTells asks_for ServesThere) result (desk [] (solo world.old None))
+        × Ran (DeskTells no_keys asks_for ServesThere) result (desk [] (solo world.old None))
         (desk staged (solo world.new seat)) (R.remaining reader.old) (R.remaining reader.new)
         (W.contents writer.old) (W.contents writer.new) }
     ensures idle { IsIdle world.old.plain → IsIdle world.new.plain }

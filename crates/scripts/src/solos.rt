@@ -6,6 +6,7 @@ ghost use Rattle.scripts.specs.Services.{seated};
 
 use crate::calls::{commit, govern, roll, search};
 use combining::Question;
+use credentials::Key;
 use decision::{Decider, Ruling};
 use features::{Change, Name, Subject};
 use plane::Shape;
@@ -55,8 +56,11 @@ impl<'a, A: Allocator + Copy> Service for Solo<'a, A> {
     ghost use Rattle.scripts.specs.Causes.{Causes};
     ghost use Rattle.scripts.specs.Services.{ServesCall, solo_subject};
     ghost use Rattle.scripts.specs.States.{solo};
+    ghost use Rattle.session_lines.specs.Services.{no_keys};
 
     type Memory = A;
+
+    ghost keys_of = { no_keys };
 
     ghost subject_of = { λ s. solo_subject (solo s.world.now.plain s.seat) };
 
@@ -64,6 +68,10 @@ impl<'a, A: Allocator + Copy> Service for Solo<'a, A> {
         × ServesCall call (solo old.world.now.plain old.seat) (solo new.world.now.plain new.seat)
         said
         × Causes call old.seat old.world.now new.world.now said };
+
+    fn keys(&self) -> &[Key] {
+        &[]
+    }
 
     fn subject(&self) -> Option<Subject> {
         subject_in(self.world, self.seat)

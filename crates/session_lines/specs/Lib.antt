@@ -5,4 +5,5 @@ pub mod Replies
 pub mod Services
 pub mod Desks
 pub mod Printed
+pub mod Opening
 pub mod Serving

@@ -1,5 +1,6 @@
 -- The calls of a service.
-use Rattle.std.specs.Prelude.{ℕ, List}
+use Rattle.std.specs.Prelude.{ℕ, List, []}
+use Rattle.credentials.specs.declared.keys.Key.{Key}
 use Rattle.plane.specs.declared.point.Point.{Point}
 use Rattle.features.specs.declared.rows.Change.{Change}
 use Rattle.policy_documents.specs.Documents.{DocumentData}
@@ -14,3 +15,7 @@ pub data Call : Type 0 where
   Explain : (question : Question) → Call
   Roll : Call
   Leave : Call
+
+-- a service whose sessions anybody may begin, by a name alone
+abbrev pub no_keys : {S : Type 0} → S → List Key
+no_keys service = []

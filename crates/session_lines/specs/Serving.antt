@@ -1,11 +1,13 @@
 -- The replies to one session by itself, whose lines have no label.
 use Rattle.std.specs.Prelude.{◌≡◌, ℕ, List, [], ◌∷◌, Option}
 use Rattle.std.specs.Bool.{MatchBool}
+use Rattle.credentials.specs.declared.keys.Key.{Key}
 use Rattle.features.specs.declared.actors.Subject.{Subject}
 use Rattle.features.specs.declared.rows.Change.{Change}
 use Rattle.session_lines.specs.declared.faults.LineFault.TheVariants.{LineTooLong}
 use Rattle.session_lines.specs.declared.replies.Reply.TheVariants.{Bye, Error}
-use Rattle.session_lines.specs.Desks.{Answers, Desk, desk}
+use Rattle.session_lines.specs.Desks.{Desk, desk}
+use Rattle.session_lines.specs.Opening.{AnswersOpened}
 use Rattle.line_streams.specs.Lines.{is_too_long, lines_of}
 use Rattle.session_lines.specs.Printed.{led, reply_text, said_text}
 use Rattle.session_lines.specs.Replies.{SaidData, line}
@@ -20,10 +22,10 @@ next_behind (line Bye) = End
 next_behind _ = Line
 
 -- the session answers a line
-pub record Replies {S : Type 0} (subject_of : S → Option Subject) (serves : Call → S → S → SaidData
+pub record Replies {S : Type 0} (keys_of : S → List Key) (subject_of : S → Option Subject) (serves : Call → S → S → SaidData
     → Type 0) (text : List ℕ) (old new : Desk S) (said : List ℕ) (next : Next) : Type 0 where
   pub reply : SaidData
-  pub answers : Answers subject_of serves text old new reply
+  pub answers : AnswersOpened keys_of subject_of serves text old new reply
   pub shows : said ≡ said_text [] reply
   pub ends : next ≡ next_behind reply
 
@@ -33,18 +35,18 @@ IsPassedOver old new said next = (new ≡ old) × (said ≡ led [] (reply_text (
     × (next ≡ Line)
 
 -- the reply to a line, and what the line leaves; no label leads the reply
-abbrev pub DeskTells : {S : Type 0} → (S → Option Subject) → (Call → S → S → SaidData → Type 0)
+abbrev pub DeskTells : {S : Type 0} → (S → List Key) → (S → Option Subject) → (Call → S → S → SaidData → Type 0)
     → List ℕ → Desk S → Desk S → List ℕ → Next → Type 0
-DeskTells subject_of serves text old new said next =
+DeskTells keys_of subject_of serves text old new said next =
     MatchBool (is_too_long text) (IsPassedOver old new said next)
-    (Replies subject_of serves text old new said next)
+    (Replies keys_of subject_of serves text old new said next)
 
 -- `text` is the replies to an input, for a session by itself whose service goes from `service` to
 -- `end`: the replies to all lines, or to those up to the first that is answered `bye`.
-pub record IsServedText {S : Type 0} (subject_of : S → Option Subject) (serves : Call → S → S
+pub record IsServedText {S : Type 0} (keys_of : S → List Key) (subject_of : S → Option Subject) (serves : Call → S → S
     → SaidData → Type 0) (service : S) (input : List ℕ) (end : S) (text : List ℕ) : Type 0 where
   pub staged : List Change
-  pub tells : StreamTells (DeskTells subject_of serves) (desk [] service) (lines_of input)
+  pub tells : StreamTells (DeskTells keys_of subject_of serves) (desk [] service) (lines_of input)
       (desk staged end) text
 
 -- calls of a service, each with what is said, lead from one state of it to another

@@ -253,7 +253,7 @@ pub fn as_number(word: &[u8]) -> Result<u64, LineFault>
 }
 
 /// The name that a word is, or `Name`.
-fn as_name(word: &[u8]) -> Result<Name, LineFault>
+pub(crate) fn as_name(word: &[u8]) -> Result<Name, LineFault>
     ensures { result ≡ or_fault LineFault.Name (name_of word.now) }
 {
     Name::new(word).ok_or(LineFault::Name)

@@ -6,6 +6,7 @@ mod commands;
 mod desks;
 mod faults;
 mod lists;
+mod opening;
 mod replies;
 mod services;
 mod serving;

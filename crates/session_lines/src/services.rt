@@ -7,6 +7,7 @@ ghost use Rattle.session_lines.specs.Replies.{line, said_view};
 
 use crate::replies::{Reply, Said};
 use combining::Question;
+use credentials::Key;
 use features::{Change, Name, Subject};
 use plane::Shape;
 use policy_text::Document;
@@ -15,7 +16,8 @@ use std::alloc::{Allocator, Global};
 /// The back end of a session, which makes the calls that the session's lines ask for. Each call
 /// returns the reply to its line.
 pub trait Service {
-    ghost use Rattle.std.specs.Prelude.{Option};
+    ghost use Rattle.std.specs.Prelude.{List, Option};
+    ghost use Rattle.credentials.specs.declared.keys.Key.{Key};
     ghost use Rattle.features.specs.declared.actors.Subject.{Subject};
     ghost use Rattle.session_lines.specs.Replies.{SaidData};
     ghost use Rattle.session_lines.specs.Services.{Call, Hello, Search, Commit, Govern, Explain, Roll, Leave};
@@ -23,11 +25,19 @@ pub trait Service {
     /// The allocator of rows and of a roll's lines.
     type Memory: Allocator;
 
+    // the keys of those who may begin the session
+    ghost keys_of: { Self → List Key };
+
     // the subject for whom the session asks
     ghost subject_of: { Self → Option Subject };
 
     // what a call makes of the service, and what is said
     ghost serves: { Call → Self → Self → SaidData → Type 0 };
+
+    /// The keys of those who may begin the session: HELLO then says a secret behind the name. With
+    /// none it says a name alone, and is believed.
+    fn keys(&self) -> &[Key]
+        ensures { result.now ≡ keys_of self.now };
 
     /// The subject for whom the session asks, from `hello` to `leave`.
     fn subject(&self) -> Option<Subject>

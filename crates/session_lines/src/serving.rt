@@ -9,8 +9,9 @@ ghost use Rattle.session_lines.specs.Serving.{Calls, IsServedText, DeskTells, ne
 ghost use Rattle.session_lines.specs.Desks.{desk};
 ghost use Rattle.line_streams.specs.Streams.{IsLine, OnMemory, Ran, RanOn, held_of, with_begun};
 
-use crate::desks::{Staged, answer};
+use crate::desks::Staged;
 use crate::faults::LineFault;
+use crate::opening::answer_opened;
 use crate::replies::{Reply, Said};
 use crate::services::Service;
 use crate::writing::{write_line, write_said};
@@ -70,7 +71,7 @@ impl<S: Service> LineDesk for Alone<S> {
 
     type World = S;
 
-    ghost tells = { λ line old new said next. DeskTells S.subject_of S.serves line
+    ghost tells = { λ line old new said next. DeskTells S.keys_of S.subject_of S.serves line
         (desk old.1.staged old.0) (desk new.1.staged new.0) said next };
 
     fn take_line<W: Write>(
@@ -83,7 +84,7 @@ impl<S: Service> LineDesk for Alone<S> {
             let too_long = Reply::Error(LineFault::LineTooLong);
             return Next::Line.behind(write_line(b"", &too_long, writer));
         }
-        let said = answer(service, self.heap, &mut self.staged, line);
+        let said = answer_opened(service, self.heap, &mut self.staged, line);
         next_behind(&said).behind(write_said(b"", &said, writer))
     }
 
@@ -92,8 +93,9 @@ impl<S: Service> LineDesk for Alone<S> {
 
 /// Serves one session to the end of the input, or to the line that is answered `bye`. Each line is
 /// answered as a script answers it, but without labels; OPEN, STEP and FINISH, which scripts alone
-/// know, are E2. No line is skipped: an empty one and one that begins with `#` are E2. Replies are
-/// written out before a read waits. `alloc` serves the buffers, `heap` the documents that are read.
+/// know, are E2. No line is skipped: an empty one and one that begins with `#` are E2. Where the
+/// service has keys, HELLO says a secret behind the name: it is E2 without one, and H1 where no key
+/// of the name has it. Replies are written out before a read waits. `alloc` serves the buffers, `heap` the documents that are read.
 /// The faults, and what holds after them, are those of `run_lines`.
 pub fn serve<S: Service, A: Allocator, R: Read, W: Write>(
     alloc: A,
@@ -105,9 +107,9 @@ pub fn serve<S: Service, A: Allocator, R: Read, W: Write>(
     ensures served_text { OnOk result
         (IfSome (R.remaining reader.old)
         (λ input. (said : List ℕ) × Appends (W.contents writer.old) (W.contents writer.new) said
-        × IsServedText S.subject_of S.serves service.old input service.new said)) }
+        × IsServedText S.keys_of S.subject_of S.serves service.old input service.new said)) }
     ensures ran { (staged : List Change)
-        × Ran (DeskTells S.subject_of S.serves) result (desk [] service.old)
+        × Ran (DeskTells S.keys_of S.subject_of S.serves) result (desk [] service.old)
         (desk staged service.new) (R.remaining reader.old) (R.remaining reader.new)
         (W.contents writer.old) (W.contents writer.new) }
     ensures calls { (calls : List (Call × SaidData))
@@ -132,7 +134,7 @@ pub fn serve_on<S: Service, A: Allocator, R: Read, W: Write>(
     writer: &mut W,
 ) -> Result<Flushed, ServeFault>
     ensures ran { (start : List ℕ) → IsLine start → sitting.old.begun ≡ held_of start
-        → RanOn READ_LIMIT (DeskTells S.subject_of S.serves) result
+        → RanOn READ_LIMIT (DeskTells S.keys_of S.subject_of S.serves) result
         (desk sitting.old.staged service.old) (desk sitting.new.staged service.new)
         sitting.new.begun (with_begun start (R.remaining reader.old)) (R.remaining reader.new)
         (W.contents writer.old) (W.contents writer.new) }

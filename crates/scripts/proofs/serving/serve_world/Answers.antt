@@ -3,7 +3,7 @@ use Rattle.scripts.specs.declared.solos.Solo.{Solo}
 use Rattle.scripts.specs.Causes.{Causes}
 use Rattle.scripts.specs.Indexed.{ServesThere, asks_for}
 use Rattle.session_lines.specs.Replies.{SaidData}
-use Rattle.session_lines.specs.Services.{Call}
+use Rattle.session_lines.specs.Services.{Call, no_keys}
 use Rattle.scripts.specs.Services.{ServesCall, solo_subject}
 use Rattle.scripts.specs.States.{SoloIn, SoloState, solo}
 use Rattle.world.specs.Index.{IndexedWorld}
@@ -18,7 +18,7 @@ returns-clause-served_text g c =
     λ call old new said. (new.world.ghost_name ≡ old.world.ghost_name) × ServesCall call (see old) (see new) said × Causes call old.seat old.world.now new.world.now said in
     let run = run_shown see (λ s. s.world.ghost_name) solo_subject lent ServesCall (λ call old new said h. h.0) (λ call old new said h. h.1)
     c.serve.result _ _ _ (solo c.args.world.now.plain None) (solo _ c.serve.new.service.seat) _ _ _ _ c.serve.ensures.calls (search rules) (search rules) c.serve.ensures.ran.1 in
-    (c.serve.new.service.seat, served_text_of solo_subject ServesCall c.serve.result _ _ _ _ _ _ _ run)
+    (c.serve.new.service.seat, served_text_of no_keys solo_subject ServesCall c.serve.result _ _ _ _ _ _ _ run)
 
 pub returns-clause-ran : goal.returns-clause-ran
 returns-clause-ran g c =
