@@ -3,7 +3,7 @@ use Rattle.std.specs.Prelude.{ℕ, List, Option, None, option_map, Result, Ok, E
 use Rattle.memory.specs.declared.no_memory.NoMemory.{NoMemory}
 use Rattle.map_answers.specs.declared.answers.Answer.{Answer}
 use Rattle.map_answers.specs.declared.answers.MediaType.{MediaType}
-use Rattle.map_answers.specs.declared.answers.MediaType.TheVariants.{Json, GeoJson, OpenApi, Html, Problem}
+use Rattle.map_answers.specs.declared.answers.MediaType.TheVariants.{Json, GeoJson, OpenApi, Html, Problem, Lines, Metrics}
 use Rattle.map_answers.specs.declared.statuses.Status.{Status}
 use Rattle.map_answers.specs.declared.statuses.Status.TheVariants.{Success}
 
@@ -13,6 +13,8 @@ media_text GeoJson = codes "application/geo+json"
 media_text OpenApi = codes "application/vnd.oai.openapi+json;version=3.0"
 media_text Html = codes "text/html; charset=utf-8"
 media_text Problem = codes "application/problem+json"
+media_text Lines = codes "application/x-ndjson"
+media_text Metrics = codes "text/plain; version=0.0.4; charset=utf-8"
 
 -- what a client sees of an answer
 pub record AnswerData : Type 0 where

@@ -18,6 +18,10 @@ pub enum MediaType {
     Html,
     /// A problem (RFC 9457).
     Problem,
+    /// Values of JSON, one a line.
+    Lines,
+    /// What Prometheus reads (its text format, version 0.0.4).
+    Metrics,
 }
 
 impl MediaType {
@@ -33,6 +37,8 @@ impl MediaType {
             MediaType::OpenApi => "application/vnd.oai.openapi+json;version=3.0",
             MediaType::Html => "text/html; charset=utf-8",
             MediaType::Problem => "application/problem+json",
+            MediaType::Lines => "application/x-ndjson",
+            MediaType::Metrics => "text/plain; version=0.0.4; charset=utf-8",
         }
     }
 }

@@ -1,4 +1,10 @@
 pub mod Askers
-pub mod Responses
+pub mod Asking
+pub mod Calls
 pub mod Hosts
+pub mod Lists
+pub mod Parts
 pub mod Requests
+pub mod Responses
+pub mod Routes
+pub mod Watching

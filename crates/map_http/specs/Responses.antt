@@ -10,10 +10,10 @@ use Rattle.map_answers.specs.Statuses.{number_of}
 use Rattle.map_answers.specs.declared.answers.MediaType.{MediaType}
 use Rattle.map_answers.specs.declared.statuses.Status.{Status}
 use Rattle.map_answers.specs.declared.statuses.Status.TheVariants.{MethodNotAllowed, Unauthorized}
-use Rattle.map_changes.specs.declared.paths.Methods.{Methods}
-use Rattle.map_changes.specs.declared.paths.Methods.TheVariants.{Read, Add, Edit}
 use Rattle.map_http.specs.declared.askers.Way.{Way}
 use Rattle.map_http.specs.declared.askers.Way.TheVariants.{Nothing, Secret, Proxy}
+use Rattle.map_http.specs.declared.routes.Allow.{Allow}
+use Rattle.map_http.specs.declared.routes.Allow.TheVariants.{Read, Add, Edit, Post, Put, Piece}
 
 -- the type of the body, where there is a body
 abbrev pub media_fields : MediaType → ℕ → List Header
@@ -44,16 +44,28 @@ add_methods = codes "GET, HEAD, POST"
 unfoldable pub edit_methods : List ℕ
 edit_methods = codes "GET, HEAD, PUT, PATCH, DELETE"
 
+unfoldable pub post_methods : List ℕ
+post_methods = codes "POST"
+
+unfoldable pub put_methods : List ℕ
+put_methods = codes "PUT"
+
+unfoldable pub piece_methods : List ℕ
+piece_methods = codes "GET, HEAD, DELETE"
+
 -- which methods a page has
-abbrev pub methods_text : Methods → List ℕ
-methods_text Read = read_methods
-methods_text Add = add_methods
-methods_text Edit = edit_methods
+abbrev pub allow_text : Allow → List ℕ
+allow_text Read = read_methods
+allow_text Add = add_methods
+allow_text Edit = edit_methods
+allow_text Post = post_methods
+allow_text Put = put_methods
+allow_text Piece = piece_methods
 
 -- which methods there are, where another one was asked for (15.5.6)
-abbrev pub allow_fields : Methods → Status → List Header
-allow_fields methods MethodNotAllowed = (codes "allow", methods_text methods) ∷ []
-allow_fields methods _ = []
+abbrev pub allow_fields : Allow → Status → List Header
+allow_fields allow MethodNotAllowed = (codes "allow", allow_text allow) ∷ []
+allow_fields allow _ = []
 
 unfoldable pub challenge_text : List ℕ
 challenge_text = codes "Basic realm=\"landmap\", charset=\"UTF-8\""
@@ -94,29 +106,29 @@ entity_fields answer =
     ++ location_fields answer.location
 
 -- what it says of itself
-abbrev pub content_fields : Methods → AnswerData → List Header
-content_fields methods answer =
-    entity_fields answer ++ retry_fields answer.retry_after ++ allow_fields methods answer.status
+abbrev pub content_fields : Allow → AnswerData → List Header
+content_fields allow answer =
+    entity_fields answer ++ retry_fields answer.retry_after ++ allow_fields allow answer.status
 
 -- what it says of who asks, where it is said in one way who asks
 abbrev pub asker_fields : Way → Status → List Header
 asker_fields way status = challenge_fields status ++ own_fields way ++ sniff_fields
 
 -- the fields of an answer
-abbrev pub answer_fields : Way → Methods → AnswerData → List Header
-answer_fields way methods answer =
-    content_fields methods answer ++ asker_fields way answer.status
+abbrev pub answer_fields : Way → Allow → AnswerData → List Header
+answer_fields way allow answer =
+    content_fields allow answer ++ asker_fields way answer.status
 
 -- the response has the status, the fields and the body of the answer
-abbrev pub Tells : Way → Methods → AnswerData → Response → Type 0
-Tells way methods answer response =
-    IsResponse (number_of answer.status) (answer_fields way methods answer) answer.body response
+abbrev pub Tells : Way → Allow → AnswerData → Response → Type 0
+Tells way allow answer response =
+    IsResponse (number_of answer.status) (answer_fields way allow answer) answer.body response
 
 -- the response says no more than that there was no room for it
 abbrev pub HasNoRoom : Response → Type 0
 HasNoRoom response = IsResponse 503 [] [] response
 
 -- the response tells of the answer, if there was one, or that there was no room
-abbrev pub Told : Way → Methods → Result AnswerData NoMemory → Response → Type 0
-Told way methods (Ok answer) response = Tells way methods answer response ⊎ HasNoRoom response
-Told way methods (Err refused) response = HasNoRoom response
+abbrev pub Told : Way → Allow → Result AnswerData NoMemory → Response → Type 0
+Told way allow (Ok answer) response = Tells way allow answer response ⊎ HasNoRoom response
+Told way allow (Err refused) response = HasNoRoom response

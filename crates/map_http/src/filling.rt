@@ -3,14 +3,14 @@
 ghost use Rattle.std.specs.Prelude.{◌≡◌, ◌++◌, OnOk, option_map};
 ghost use Rattle.http_server.specs.Response.{IsBlank, fields_of};
 ghost use Rattle.map_answers.specs.Answers.{answer_data, answered, media_text};
-ghost use Rattle.map_http.specs.Responses.{HasNoRoom, Tells, Told, add_methods, allow_fields, answer_fields, asker_fields, challenge_fields, challenge_text, content_fields, edit_methods, entity_fields, location_fields, media_fields, methods_text, own_fields, own_fields_by, private_text, proxy_field, read_methods, retry_fields, secret_field, sniff_fields, tag_fields};
+ghost use Rattle.map_http.specs.Responses.{HasNoRoom, Tells, Told, add_methods, allow_fields, allow_text, answer_fields, asker_fields, challenge_fields, challenge_text, content_fields, edit_methods, entity_fields, location_fields, media_fields, own_fields, own_fields_by, piece_methods, post_methods, private_text, proxy_field, put_methods, read_methods, retry_fields, secret_field, sniff_fields, tag_fields};
 
 use crate::askers::Way;
+use crate::routes::Allow;
 use bytes::Bytes;
 use http::{HeaderValue, StatusCode, header};
 use http_server::Response;
 use map_answers::{Answer, MediaType, Status, tag_of};
-use map_changes::Methods;
 use memory::NoMemory;
 use std::alloc::Global;
 
@@ -127,27 +127,54 @@ fn edit_methods() -> HeaderValue
     HeaderValue::from_static("GET, HEAD, PUT, PATCH, DELETE")
 }
 
-/// The methods that a page has.
-fn methods_value(methods: Methods) -> HeaderValue
-    ensures { result.bytes ≡ methods_text methods }
+/// The methods of a page to which a list, or a roll of the trail, is posted.
+#[tactic(auto, unfolding(crate::specs::Responses::post_methods))]
+fn post_methods() -> HeaderValue
+    ensures { result.bytes ≡ post_methods }
 {
-    match methods {
-        Methods::Read => read_methods(),
-        Methods::Add => add_methods(),
-        Methods::Edit => edit_methods(),
+    HeaderValue::from_static("POST")
+}
+
+/// The methods of the policy.
+#[tactic(auto, unfolding(crate::specs::Responses::put_methods))]
+fn put_methods() -> HeaderValue
+    ensures { result.bytes ≡ put_methods }
+{
+    HeaderValue::from_static("PUT")
+}
+
+/// The methods of a piece of the trail.
+#[tactic(auto, unfolding(crate::specs::Responses::piece_methods))]
+fn piece_methods() -> HeaderValue
+    ensures { result.bytes ≡ piece_methods }
+{
+    HeaderValue::from_static("GET, HEAD, DELETE")
+}
+
+/// The methods that there are.
+fn allow_value(allow: Allow) -> HeaderValue
+    ensures { result.bytes ≡ allow_text allow }
+{
+    match allow {
+        Allow::Read => read_methods(),
+        Allow::Add => add_methods(),
+        Allow::Edit => edit_methods(),
+        Allow::Post => post_methods(),
+        Allow::Put => put_methods(),
+        Allow::Piece => piece_methods(),
     }
 }
 
 /// Adds which methods there are, where another one was asked for.
-fn add_allow(response: &mut Response, methods: Methods, status: Status) -> Result<(), Unfilled>
+fn add_allow(response: &mut Response, allow: Allow, status: Status) -> Result<(), Unfilled>
     ensures fields { OnOk result
-        (fields_of response.new ≡ fields_of response.old ++ allow_fields methods status) }
+        (fields_of response.new ≡ fields_of response.old ++ allow_fields allow status) }
     ensures status { response.new.status ≡ response.old.status }
     ensures body { response.new.body ≡ response.old.body }
 {
     match status {
         Status::MethodNotAllowed => {
-            match response.add_header(header::ALLOW, methods_value(methods)) {
+            match response.add_header(header::ALLOW, allow_value(allow)) {
                 Ok(()) => Ok(()),
                 Err(_) => Err(Unfilled),
             }
@@ -270,17 +297,17 @@ fn add_entity_fields(
 fn add_content_fields(
     response: &mut Response,
     heap: Global,
-    methods: Methods,
+    allow: Allow,
     answer: &Answer<Global>,
 ) -> Result<(), Unfilled>
     ensures fields { OnOk result (fields_of response.new
-        ≡ fields_of response.old ++ content_fields methods (answer_data answer.now)) }
+        ≡ fields_of response.old ++ content_fields allow (answer_data answer.now)) }
     ensures status { response.new.status ≡ response.old.status }
     ensures body { response.new.body ≡ response.old.body }
 {
     add_entity_fields(response, heap, answer)?;
     add_retry(response, heap, answer.retry_after)?;
-    add_allow(response, methods, answer.status)
+    add_allow(response, allow, answer.status)
 }
 
 /// Adds what an answer says of who asks, where it is said in one way who asks.
@@ -300,15 +327,15 @@ fn add_fields(
     response: &mut Response,
     heap: Global,
     way: Way,
-    methods: Methods,
+    allow: Allow,
     answer: &Answer<Global>,
 ) -> Result<(), Unfilled>
     ensures fields { OnOk result (fields_of response.new
-        ≡ fields_of response.old ++ answer_fields way methods (answer_data answer.now)) }
+        ≡ fields_of response.old ++ answer_fields way allow (answer_data answer.now)) }
     ensures status { response.new.status ≡ response.old.status }
     ensures body { response.new.body ≡ response.old.body }
 {
-    add_content_fields(response, heap, methods, answer)?;
+    add_content_fields(response, heap, allow, answer)?;
     add_asker_fields(response, way, answer.status)
 }
 
@@ -333,17 +360,17 @@ fn fill(
     response: &mut Response,
     heap: Global,
     way: Way,
-    methods: Methods,
+    allow: Allow,
     answer: Answer<Global>,
 ) -> Result<(), Unfilled>
     requires { IsBlank response.old }
-    ensures { OnOk result (Tells way methods (answer_data answer) response.new) }
+    ensures { OnOk result (Tells way allow (answer_data answer) response.new) }
 {
     let Ok(status) = StatusCode::from_u16(answer.status.number()) else {
         return Err(Unfilled);
     };
     response.status = status;
-    add_fields(response, heap, way, methods, &answer)?;
+    add_fields(response, heap, way, allow, &answer)?;
     add_body(response, answer.body)
 }
 
@@ -361,14 +388,14 @@ pub(crate) fn tell(
     response: &mut Response,
     heap: Global,
     way: Way,
-    methods: Methods,
+    allow: Allow,
     told: Result<Answer<Global>, NoMemory>,
 )
     requires { IsBlank response.old }
-    ensures { Told way methods (answered told) response.new }
+    ensures { Told way allow (answered told) response.new }
 {
     let filled = match told {
-        Ok(answer) => fill(response, heap, way, methods, answer),
+        Ok(answer) => fill(response, heap, way, allow, answer),
         Err(_) => Err(Unfilled),
     };
     if filled.is_err() {

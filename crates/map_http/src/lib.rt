@@ -2,8 +2,18 @@
 #![tactic(auto)]
 
 mod askers;
+mod asking;
+mod calls;
 mod filling;
 mod hosts;
+mod lists;
+mod parts;
 mod requests;
+mod routes;
+mod watching;
 
-pub use requests::answer_request;
+pub use calls::answer_calling;
+pub use lists::answer_listing;
+pub use requests::{answer_changing, answer_reading};
+pub use routes::{Route, route_of};
+pub use watching::answer_watching;

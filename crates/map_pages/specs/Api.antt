@@ -1,6 +1,7 @@
 -- The description of the pages for programs (OpenAPI 3.0).
 use Rattle.std.specs.Prelude.{ℕ, List, ◌++◌, codes}
 use Rattle.map_answers.specs.Strings.{string_text}
+use Rattle.map_pages.specs.CallPaths.{call_paths}
 
 unfoldable pub api_head : List ℕ
 api_head = codes "{\"openapi\":\"3.0.3\",\"info\":{\"title\":\"landmap\",\"version\":\"1\"},\"servers\":[{\"url\":"
@@ -86,7 +87,7 @@ fixed_paths = root_path ++ conformance_path ++ collections_path ++ collection_pa
 
 -- what each path has, and how it is asked for
 unfoldable pub paths_text : List ℕ
-paths_text = fixed_paths ++ items_path ++ item_path ++ codes "}}"
+paths_text = fixed_paths ++ items_path ++ item_path ++ call_paths ++ codes "}}"
 
 -- the description of the server at this base
 abbrev pub api_text : List ℕ → List ℕ

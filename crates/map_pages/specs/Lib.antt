@@ -1,5 +1,6 @@
-pub mod Landing
-pub mod Extents
-pub mod Collections
 pub mod Api
+pub mod CallPaths
+pub mod Collections
+pub mod Extents
 pub mod Fixed
+pub mod Landing

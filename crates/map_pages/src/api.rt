@@ -4,6 +4,7 @@ ghost use Rattle.std.specs.Prelude.{◌≡◌, ◌++◌, OnOk, codes};
 ghost use Rattle.map_answers.specs.Strings.{string_text};
 ghost use Rattle.map_pages.specs.Api.{adding_answered, adding_asked, api_head, api_text, change_parameters, collection_path, collections_path, conformance_path, deleting, deleting_answered, fixed_paths, item_get, item_path, items_get, items_path, map_path, patching, patching_body, paths_key, paths_text, replacing, replacing_body, reshaping_answered, root_path};
 
+use crate::call_paths::put_call_paths;
 use map_answers::{put, put_string};
 use memory::NoMemory;
 use std::alloc::Allocator;
@@ -234,6 +235,7 @@ fn put_paths<A: Allocator>(text: &mut Vec<u8, A>) -> Result<(), NoMemory>
     put_fixed_paths(text)?;
     put_items_path(text)?;
     put_item_path(text)?;
+    put_call_paths(text)?;
     put(text, b"}}")
 }
 

@@ -3,6 +3,7 @@
 #![tactic(auto)]
 
 mod api;
+mod call_paths;
 mod collections;
 mod extents;
 mod fixed;
