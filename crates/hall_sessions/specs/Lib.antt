@@ -1,3 +1,4 @@
 pub mod Replies
+pub mod Events
 pub mod Sessions
 pub mod Services

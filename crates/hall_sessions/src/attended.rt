@@ -3,10 +3,13 @@
 ghost use Rattle.std.specs.Prelude.{◌≡◌, IfSome, length};
 ghost use Rattle.hall_sessions.specs.Services.{IsSeatNamed};
 
+use crate::events::event_of;
 use crate::replies::{explained_reply, hall_reply};
 use combining::Question;
+use credentials::Key;
 use features::{Change, Name, Subject};
 use hall::{Hall, HallFault, HallName, Pause, Seat, View};
+use map_metrics::{Event, Tally};
 use memory::GrowVec;
 use plane::Shape;
 use policy_documents::Document;
@@ -36,7 +39,8 @@ fn seat_named<'h, L: HallName, R: Wait + Drop, A: Allocator>(
 /// sessions. It stays there when the session ends, since a hall is closed with all its seats; where
 /// seats are given again, a later session of its subject has it. The
 /// pause is that of its calls. EXPLAIN asks the worker's view, which needs no seat
-/// and no lock; the view is told of each document that the session puts in force.
+/// and no lock; the view is told of each document that the session puts in force. What comes of its
+/// calls is counted, where there is a tally.
 #[derive(Drop)]
 pub struct Attended<'a, 'h, L: HallName, R: Wait + Drop, A: Allocator, W: Wait, P: Pause> {
     rt: &'a W,
@@ -48,6 +52,9 @@ pub struct Attended<'a, 'h, L: HallName, R: Wait + Drop, A: Allocator, W: Wait, 
     earlier: usize,
     /// Whether HELLO takes a seat of an earlier session, if one is the subject's.
     reuses: bool,
+    /// The keys of those who may begin the session.
+    keys: &'a [Key],
+    tally: Option<&'a Tally>,
 }
 
 impl<'a, 'h, L: HallName, R: Wait + Drop, A: Allocator + Copy, W: Wait, P: Pause> Attended<
@@ -60,7 +67,8 @@ impl<'a, 'h, L: HallName, R: Wait + Drop, A: Allocator + Copy, W: Wait, P: Pause
     P,
 > {
     /// A session before HELLO. `seats` are those of the worker's earlier sessions, `view` is the
-    /// worker's. `reuses` says whether a seat of an earlier session is given again.
+    /// worker's. `reuses` says whether a seat of an earlier session is given again. Where there are
+    /// keys, HELLO says a secret. `tally` counts what comes of its calls.
     pub fn new(
         rt: &'a W,
         hall: &'h Hall<L, R, A>,
@@ -68,6 +76,8 @@ impl<'a, 'h, L: HallName, R: Wait + Drop, A: Allocator + Copy, W: Wait, P: Pause
         view: &'a mut View<L>,
         pause: &'a mut P,
         reuses: bool,
+        keys: &'a [Key],
+        tally: Option<&'a Tally>,
     ) -> Self
         ensures same_seats { result.seats.ghost_name ≡ seats.entry.ghost_name }
         ensures seats { result.seats.now ≡ seats.old }
@@ -75,6 +85,7 @@ impl<'a, 'h, L: HallName, R: Wait + Drop, A: Allocator + Copy, W: Wait, P: Pause
         ensures view { result.view.now ≡ view.old }
         ensures earlier { result.earlier ≡ length seats.old.items }
         ensures reuses { result.reuses ≡ reuses }
+        ensures keys { result.keys.now ≡ keys.now }
     {
         let earlier = seats.len();
         Attended {
@@ -85,6 +96,22 @@ impl<'a, 'h, L: HallName, R: Wait + Drop, A: Allocator + Copy, W: Wait, P: Pause
             pause,
             earlier,
             reuses,
+            keys,
+            tally,
+        }
+    }
+
+    /// Counts what a reply tells of, if there is a tally.
+    fn count(&self, reply: &Reply) {
+        if let (Some(tally), Some(event)) = (self.tally, event_of(reply)) {
+            tally.count_event(event);
+        }
+    }
+
+    /// Counts a search that is answered, if there is a tally.
+    fn count_search(&self) {
+        if let Some(tally) = self.tally {
+            tally.count_event(Event::Searched);
         }
     }
 }
@@ -97,12 +124,18 @@ impl<'a, 'h, L: HallName, R: Wait + Drop, A: Allocator + Copy, W: Wait, P: Pause
 
     type Memory = A;
 
+    ghost keys_of = { λ s. s.keys.now };
+
     ghost subject_of = { λ s. session_subject (session s.earlier s.seats.now.items s.view.now) };
 
     ghost serves = { λ call old new said. (new.seats.ghost_name ≡ old.seats.ghost_name)
-        × (new.view.ghost_name ≡ old.view.ghost_name) × (new.reuses ≡ old.reuses)
+        × (new.view.ghost_name ≡ old.view.ghost_name) × (new.reuses ≡ old.reuses) × (new.keys ≡ old.keys)
         × ServesInHall old.reuses L.opening.subjects call (session old.earlier old.seats.now.items old.view.now)
         (session new.earlier new.seats.now.items new.view.now) said };
+
+    fn keys(&self) -> &[Key] {
+        self.keys
+    }
 
     fn subject(&self) -> Option<Subject> {
         Some(self.seats.get(self.earlier)?.subject())
@@ -133,7 +166,10 @@ impl<'a, 'h, L: HallName, R: Wait + Drop, A: Allocator + Copy, W: Wait, P: Pause
             return Said::Line(Reply::Error(LineFault::BeforeHello));
         };
         match seat.search(self.rt, window, self.pause) {
-            Ok(answer) => Said::Rows(answer),
+            Ok(answer) => {
+                self.count_search();
+                Said::Rows(answer)
+            }
             Err(fault) => Said::Line(hall_reply(fault)),
         }
     }
@@ -143,8 +179,16 @@ impl<'a, 'h, L: HallName, R: Wait + Drop, A: Allocator + Copy, W: Wait, P: Pause
             return Reply::Error(LineFault::BeforeHello);
         };
         match seat.commit(self.rt, changes, self.pause) {
-            Ok(outcome) => outcome_reply(&outcome),
-            Err(fault) => hall_reply(fault),
+            Ok(outcome) => {
+                let reply = outcome_reply(&outcome);
+                self.count(&reply);
+                reply
+            }
+            Err(fault) => {
+                let reply = hall_reply(fault);
+                self.count(&reply);
+                reply
+            }
         }
     }
 
@@ -156,9 +200,15 @@ impl<'a, 'h, L: HallName, R: Wait + Drop, A: Allocator + Copy, W: Wait, P: Pause
             Ok(edition) => {
                 let number = edition.number();
                 self.view.catch_up(edition);
-                Reply::Edition(number)
+                let reply = Reply::Edition(number);
+                self.count(&reply);
+                reply
             }
-            Err(fault) => hall_reply(fault),
+            Err(fault) => {
+                let reply = hall_reply(fault);
+                self.count(&reply);
+                reply
+            }
         }
     }
 

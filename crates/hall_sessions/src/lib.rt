@@ -3,7 +3,9 @@
 #![tactic(auto)]
 
 mod attended;
+mod events;
 mod replies;
 
 pub use attended::Attended;
+pub use events::event_of;
 pub use replies::{explained_reply, hall_reply};

@@ -6,10 +6,12 @@ use crate::lasting::{HallRecords, Lasting, barrier};
 use crate::turns::Turn;
 use crate::workers::Connection;
 use byte_streams::let_go;
+use credentials::Key;
 use features::Name;
 use hall::{Hall, HallName, NoPause, Seat, View};
 use hall_sessions::Attended;
 use log::{Log, warn};
+use map_metrics::Tally;
 use memory::{GrowVec, NoMemory, buffered, try_extend};
 use session_lines::{Reply, Service, Sitting, serve_on};
 use std::alloc::Global;
@@ -247,8 +249,12 @@ impl Aside {
 #[derive(Drop)]
 pub struct Guest<'t> {
     pub session: Session,
+    /// The keys of those who may begin a session; with none, HELLO is believed.
+    pub keys: &'t [Key],
     pub turn: &'t Turn,
     pub aside: &'t Mutex<Aside>,
+    /// What is counted, if anything is.
+    pub tally: Option<&'t Tally>,
 }
 
 /// Sets a session aside for the next hall.
@@ -316,7 +322,9 @@ impl Session {
         seats: &mut Vec<Seat<'h, L, H, Global>>,
         view: &mut View<L>,
         lasting: Option<Lasting<'_>>,
+        keys: &[Key],
         turn: &Turn,
+        tally: Option<&Tally>,
     ) -> Served {
         if let Some(served) = self.catch_up(turn) {
             return served;
@@ -334,7 +342,7 @@ impl Session {
             return Served::Failed("V4");
         };
         let mut pause = NoPause;
-        let mut attended = Attended::new(rt, hall, seats, view, &mut pause, true);
+        let mut attended = Attended::new(rt, hall, seats, view, &mut pause, true, keys, tally);
         if !resume(&mut attended, self.name) {
             let _ = let_go(writer);
             return Served::Failed("H2");
@@ -376,13 +384,15 @@ impl Connection for Guest<'_> {
     ) {
         let Guest {
             session,
+            keys,
             turn,
             aside,
+            tally,
         } = self;
         let mut session = session;
         let is_served = !turn.is_over();
         turn.enter();
-        let served = session.serve(rt, heap, hall, seats, view, lasting, turn);
+        let served = session.serve(rt, heap, hall, seats, view, lasting, keys, turn, tally);
         turn.leave();
         match served {
             Served::Ended => {}

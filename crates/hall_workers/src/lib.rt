@@ -12,4 +12,4 @@ pub use guests::{Aside, Guest, Session};
 pub use lasting::Lasting;
 pub use turns::{TERM_BYTES, TERM_RECORDS, Turn};
 pub use visitors::{Lounge, Reception, receive};
-pub use workers::{Connection, tend, work};
+pub use workers::{Caller, Connection, tend, work};

@@ -15,6 +15,8 @@ use http_counters::Counter;
 use http_server::{Config, serve};
 use listeners::WebStream;
 use log::{Log, warn};
+use map_calls::Pieces;
+use map_metrics::Tally;
 use map_pages::Site;
 use map_sessions::{Host, Kept};
 use memory::buffered;
@@ -106,6 +108,10 @@ pub struct Reception<'a> {
     pub keys: &'a [Key],
     /// Whether a proxy says who asks, by a field of its own.
     pub trusted_field: bool,
+    /// The subject that may read what is counted, if there is one.
+    pub metrics: Option<Name>,
+    /// What is counted, of sessions of lines too.
+    pub tally: &'a Tally,
     /// The answers of which pages are still to come.
     pub kept: &'a Mutex<Kept<Global>>,
     /// Connections that wait.
@@ -296,6 +302,8 @@ impl Visitor {
             return false;
         };
         let mut pause = NoPause;
+        // No route leads to the trail, so nothing is ever kept here.
+        let pieces = Mutex::new(Pieces::new(heap));
         let mut counter = Counter {
             rt,
             heap,
@@ -305,8 +313,20 @@ impl Visitor {
                 keys: reception.keys,
                 trusted_field: reception.trusted_field,
             },
-            session: Attended::new(rt, hall, seats, view, &mut pause, true),
+            session: Attended::new(
+                rt,
+                hall,
+                seats,
+                view,
+                &mut pause,
+                true,
+                &[],
+                Some(reception.tally),
+            ),
             kept: reception.kept,
+            pieces: &pieces,
+            tally: reception.tally,
+            reader: reception.metrics,
         };
         let mut reader = VisitorReader {
             rt,

@@ -3,11 +3,13 @@
 use crate::lasting::{HallRecords, Lasting, barrier};
 use crate::turns::Turn;
 use byte_streams::let_go;
+use credentials::Key;
 use crossbeam_channel::{Receiver, RecvTimeoutError};
 use hall::{Hall, HallFault, HallName, Pause, Seat, View};
 use hall_sessions::Attended;
 use line_streams::ServeFault;
 use log::{Log, warn};
+use map_metrics::Tally;
 use memory::buffered;
 use session_lines::serve;
 use std::alloc::Global;
@@ -39,6 +41,19 @@ pub trait Connection {
     fn turn_away<R: Wait + Log>(self, rt: &R);
 }
 
+/// A stream whose session is served to its end: its reader, its writer, and the pause of its calls. A
+/// fault ends its session alone, with a warning.
+#[derive(Drop)]
+pub struct Caller<'k, I: Read, O: Write, G: Pause> {
+    pub reader: I,
+    pub writer: O,
+    pub pause: G,
+    /// The keys of those who may begin the session; with none, HELLO is believed.
+    pub keys: &'k [Key],
+    /// What is counted, if anything is.
+    pub tally: Option<&'k Tally>,
+}
+
 /// Serves a session whose replies are buffered. If it ends with a fault, what is left in the buffer
 /// is not written.
 fn serve_buffered<'h, L: HallName, H: Wait + Drop, R: Wait, I: Read, O: Write + Drop, G: Pause>(
@@ -50,11 +65,13 @@ fn serve_buffered<'h, L: HallName, H: Wait + Drop, R: Wait, I: Read, O: Write + 
     reader: &mut I,
     writer: O,
     pause: &mut G,
+    keys: &[Key],
+    tally: Option<&Tally>,
     lasting: Option<Lasting<'_>>,
 ) -> Result<(), ServeFault> {
     let records = HallRecords::of(rt, hall, lasting);
     let mut writer = buffered(heap, barrier(rt, &records, lasting, writer))?;
-    let mut attended = Attended::new(rt, hall, seats, view, pause, false);
+    let mut attended = Attended::new(rt, hall, seats, view, pause, false, keys, tally);
     match serve(heap, heap, &mut attended, reader, &mut writer) {
         Ok(_) => Ok(()),
         Err(fault) => {
@@ -64,9 +81,7 @@ fn serve_buffered<'h, L: HallName, H: Wait + Drop, R: Wait, I: Read, O: Write + 
     }
 }
 
-/// A stream as its reader, its writer, and the pause of its calls: it is served to its end. A fault
-/// ends its session alone, with a warning.
-impl<I: Read + Drop, O: Write + Drop, G: Pause + Drop> Connection for (I, O, G) {
+impl<I: Read + Drop, O: Write + Drop, G: Pause + Drop> Connection for Caller<'_, I, O, G> {
     fn serve<'h, L: HallName, H: Wait + Drop, R: Wait + Log>(
         self,
         rt: &R,
@@ -76,7 +91,13 @@ impl<I: Read + Drop, O: Write + Drop, G: Pause + Drop> Connection for (I, O, G) 
         view: &mut View<L>,
         lasting: Option<Lasting<'_>>,
     ) {
-        let (mut reader, writer, mut pause) = self;
+        let Caller {
+            mut reader,
+            writer,
+            mut pause,
+            keys,
+            tally,
+        } = self;
         let ended = serve_buffered(
             rt,
             heap,
@@ -86,6 +107,8 @@ impl<I: Read + Drop, O: Write + Drop, G: Pause + Drop> Connection for (I, O, G) 
             &mut reader,
             writer,
             &mut pause,
+            keys,
+            tally,
             lasting,
         );
         if let Err(fault) = ended {

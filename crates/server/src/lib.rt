@@ -14,7 +14,7 @@ mod webs;
 pub use faults::{NoMemoryForChannel, ServerFault};
 pub use group_commit::Rests;
 pub use hall::Closed;
-pub use hall_workers::{TERM_BYTES, TERM_RECORDS};
+pub use hall_workers::{Caller, TERM_BYTES, TERM_RECORDS};
 pub use keeping::{AppendFault, Begins, Keeps, Restored, StoreFault, Writes};
 pub use kept::{Handover, Keeping, serve_kept};
 pub use listeners::{Stop, WebPlace, watch};

@@ -10,9 +10,10 @@ use crate::ready::tell_ready;
 use crate::streams::{QUEUE, Serving, WORKER_LIMIT, channel, serve_lasting};
 use crate::terms::{Relay, serve_relay};
 use crate::webs::{WEB_QUEUE, Web, WebRoom, accept_web, wake};
+use credentials::Key;
 use crossbeam_channel::Sender;
 use hall::{Closed, NoPause};
-use hall_workers::Lasting;
+use hall_workers::{Caller, Lasting};
 use listeners::{
     Bound, SocketFile, Stop, WebListener, WebStream, listen, listen_web, remove_own, remove_web,
 };
@@ -57,6 +58,9 @@ pub struct SocketOptions<'a> {
     pub takeover: bool,
     /// How the server is told to accept no more connections, as `watch` tells it.
     pub stop: Option<&'a Stop>,
+    /// The keys of those who may begin a session of lines: HELLO then says a secret. With none it is
+    /// believed.
+    pub keys: &'a [Key],
     /// How HTTP is answered beside the socket, if it is. A server of so many connections answers none.
     pub web: Option<&'a Web<'a>>,
 }
@@ -113,16 +117,23 @@ fn patience(idle: Option<u64>) -> Option<Duration> {
     }
 }
 
-/// A stream as its reader, its writer and a pause that does nothing. Its calls wait at most
+/// A stream as one whose session is served to its end, by these keys. Its calls wait at most
 /// `patience`.
 fn parted(
     stream: UnixStream,
     patience: Option<Duration>,
-) -> io::Result<(UnixStream, UnixStream, NoPause)> {
+    keys: &[Key],
+) -> io::Result<Caller<'_, UnixStream, UnixStream, NoPause>> {
     stream.set_read_timeout(patience)?;
     stream.set_write_timeout(patience)?;
     let reader = stream.try_clone()?;
-    Ok((reader, stream, NoPause))
+    Ok(Caller {
+        reader,
+        writer: stream,
+        pause: NoPause,
+        keys,
+        tally: None,
+    })
 }
 
 /// Serves so many connections, and stops listening after the last one.
@@ -147,8 +158,9 @@ where
         stop: options.stop,
     };
     let patience = patience(options.idle);
+    let keys = options.keys;
     let incoming = arrivals.filter_map(|arrived| {
-        match arrived.and_then(|stream| parted(stream, patience)) {
+        match arrived.and_then(|stream| parted(stream, patience, keys)) {
             Ok(stream) => Some(stream),
             Err(error) => {
                 warn!(rt; target: "landmap", "a connection was not accepted: {error}");
@@ -265,6 +277,7 @@ where
                 lasting,
                 arrivals: &arrivals,
                 idle: options.idle,
+                keys: options.keys,
                 records,
                 reception: reception.as_ref(),
             };

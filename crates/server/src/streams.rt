@@ -10,7 +10,7 @@ use crate::keeping::Begins;
 use crossbeam_channel::{Receiver, SendError, Sender, bounded};
 use features::Subjects;
 use hall::{Closed, Hall, HallName, LEDGER_PARTS, Pause, Seat, Unnamed, VIEW_LIMIT, View};
-use hall_workers::{Connection, Lasting, Reception, Turn, receive, tend, work};
+use hall_workers::{Caller, Connection, Lasting, Reception, Turn, receive, tend, work};
 use log::{Log, warn};
 use memory::{GrowVec, vec_with_slots};
 use plain_world::SEAT_LIMIT;
@@ -218,7 +218,7 @@ where
 
 /// Serves what comes in over an open hall, and closes it. With a desk, all records last before it
 /// is closed, or the desk has failed.
-fn serve_open<L: HallName + Send + Sync, H, R, I, O, G, S>(
+fn serve_open<L: HallName + Send + Sync, H, R, T, S>(
     rt: &R,
     heap: Global,
     hall: &Hall<L, H, Global>,
@@ -229,10 +229,8 @@ fn serve_open<L: HallName + Send + Sync, H, R, I, O, G, S>(
 where
     H: Wait + Drop + Send,
     R: Threads + Wait + Clock + Log + Sync,
-    I: Read + Drop + Send,
-    O: Write + Drop + Send,
-    G: Pause + Drop + Send,
-    S: Iterator<Item = (I, O, G)> + Drop,
+    T: Connection + Drop + Send,
+    S: Iterator<Item = T> + Drop,
     requires parts { L.parts ≡ LEDGER_PARTS }
     requires can { S.can_next incoming }
     requires ends { IsFinite (S.remaining incoming) }
@@ -287,7 +285,7 @@ pub(crate) fn opened<L: HallName, H: Wait + Drop>(
 }
 
 /// Serves what comes in over a hall of the name `L`, and closes the hall.
-fn serve_hall<L: HallName + Send + Sync, H, R, I, O, G, S>(
+fn serve_hall<L: HallName + Send + Sync, H, R, T, S>(
     rt: &R,
     own: H,
     heap: Global,
@@ -299,10 +297,8 @@ fn serve_hall<L: HallName + Send + Sync, H, R, I, O, G, S>(
 where
     H: Wait + Drop + Send,
     R: Threads + Wait + Clock + Log + Sync,
-    I: Read + Drop + Send,
-    O: Write + Drop + Send,
-    G: Pause + Drop + Send,
-    S: Iterator<Item = (I, O, G)> + Drop,
+    T: Connection + Drop + Send,
+    S: Iterator<Item = T> + Drop,
     requires name { unnamed.ledger.name ≡ L.name }
     requires parts { (unnamed.ledger.parts ≡ L.parts) × (L.parts ≡ LEDGER_PARTS) }
     requires list { unnamed.list ≡ L.book }
@@ -324,7 +320,7 @@ where
 
 /// Serves streams as `serve_streams` does; where there is a desk, replies leave once the records on
 /// which they rest last.
-pub(crate) fn serve_lasting<H, R, I, O, G, S>(
+pub(crate) fn serve_lasting<H, R, T, S>(
     rt: &R,
     own: H,
     heap: Global,
@@ -335,16 +331,14 @@ pub(crate) fn serve_lasting<H, R, I, O, G, S>(
 where
     H: Wait + Drop + Send,
     R: Threads + Wait + Clock + Log + Sync,
-    I: Read + Drop + Send,
-    O: Write + Drop + Send,
-    G: Pause + Drop + Send,
-    S: Iterator<Item = (I, O, G)> + Drop,
+    T: Connection + Drop + Send,
+    S: Iterator<Item = T> + Drop,
     requires can { S.can_next incoming }
     requires ends { IsFinite (S.remaining incoming) }
     ensures { IfOk result (IsServed (opening_of serving.subjects serving.begins)) }
 {
     let unnamed = Unnamed::new();
-    serve_hall::<Brand, H, R, I, O, G, S>(rt, own, heap, unnamed, serving, lasting, incoming)
+    serve_hall::<Brand, H, R, T, S>(rt, own, heap, unnamed, serving, lasting, incoming)
 }
 
 /// Serves streams by workers, beside one thread that tends the index. A worker serves one stream
@@ -353,7 +347,7 @@ where
 /// worker is dropped, with a warning. `own` is the hall's own handle, with which it publishes
 /// policies. Faults: `Channel`, `Open`, `Hall` and `NoWorker` before anything is served; `Close`
 /// where the receipts of a seat are not its records, or a seat is lost.
-pub fn serve_streams<H, R, I, O, G, S>(
+pub fn serve_streams<'k, H, R, I, O, G, S>(
     rt: &R,
     own: H,
     heap: Global,
@@ -366,7 +360,7 @@ where
     I: Read + Drop + Send,
     O: Write + Drop + Send,
     G: Pause + Drop + Send,
-    S: Iterator<Item = (I, O, G)> + Drop,
+    S: Iterator<Item = Caller<'k, I, O, G>> + Drop,
     requires can { S.can_next incoming }
     requires ends { IsFinite (S.remaining incoming) }
     ensures { IfOk result (IsServed (opening_of serving.subjects serving.begins)) }

@@ -9,11 +9,13 @@ ghost use Rattle.server.specs.Served.{opening_of};
 use crate::faults::ServerFault;
 use crate::keeping::{Begins, Restored, StoreFault};
 use crate::streams::{opened, serve_tended, views_of};
+use credentials::Key;
 use crossbeam_channel::{Receiver, RecvTimeoutError};
 use features::Subjects;
 use hall::{Closed, Hall, HallName, LEDGER_PARTS, LeaveFault, Left, Seat, Unnamed};
 use hall_workers::{Aside, Guest, Lasting, Reception, Session, Turn};
 use log::{Log, warn};
+use map_metrics::Tally;
 use std::alloc::Global;
 use std::marker::Brand;
 use std::os::unix::net::UnixStream;
@@ -39,8 +41,10 @@ struct Coming<'t, R: Wait + Clock + Log> {
     waiting: Aside,
     arrivals: &'t Receiver<UnixStream>,
     idle: Option<u64>,
+    keys: &'t [Key],
     turn: &'t Turn,
     aside: &'t Mutex<Aside>,
+    tally: Option<&'t Tally>,
     left: u64,
 }
 
@@ -91,8 +95,10 @@ impl<'t, R: Wait + Clock + Log> Iterator for Coming<'t, R> {
         let session = self.next_session()?;
         Some(Guest {
             session,
+            keys: self.keys,
             turn: self.turn,
             aside: self.aside,
+            tally: self.tally,
         })
     }
 }
@@ -134,6 +140,8 @@ pub(crate) struct Relay<'a, 'w> {
     pub(crate) arrivals: &'a Receiver<UnixStream>,
     /// For how many seconds a session may wait for its client.
     pub(crate) idle: Option<u64>,
+    /// The keys of those who may begin a session of lines.
+    pub(crate) keys: &'a [Key],
     /// After how many records a hall gives way.
     pub(crate) records: u64,
     /// Where connections of HTTP are received, if they are.
@@ -145,6 +153,14 @@ fn web_workers(reception: Option<&Reception<'_>>) -> usize {
     match reception {
         Some(reception) => reception.workers,
         None => 0,
+    }
+}
+
+/// What is counted, where HTTP is answered, by which it is read.
+fn tally_of<'w>(reception: Option<&'w Reception<'w>>) -> Option<&'w Tally> {
+    match reception {
+        Some(reception) => Some(reception.tally),
+        None => None,
     }
 }
 
@@ -186,6 +202,7 @@ where
         lasting,
         arrivals,
         idle,
+        keys,
         records,
         reception,
     } = relay;
@@ -199,8 +216,10 @@ where
         waiting,
         arrivals,
         idle,
+        keys,
         turn: &turn,
         aside: &aside,
+        tally: tally_of(reception),
         left: u64::MAX,
     };
     let views = views_of(rt, heap, &hall, workers)?;

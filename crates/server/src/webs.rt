@@ -8,6 +8,7 @@ use features::Name;
 use hall_workers::{Lounge, Reception};
 use listeners::{Stop, WebListener, WebPlace, WebStream, wake_web};
 use log::{Log, warn};
+use map_metrics::Tally;
 use map_pages::Site;
 use map_sessions::Kept;
 use std::alloc::Global;
@@ -40,6 +41,8 @@ pub struct Web<'a> {
     /// Whether a proxy says who asks, by the field `landmap-subject`: only where no client reaches
     /// the place.
     pub trusted_field: bool,
+    /// The subject that may read what is counted, if there is one.
+    pub metrics: Option<Name>,
     /// Drawn anew for each server.
     pub random: RandomState,
     /// How many connections are answered side by side, from 1 to `WEB_WORKER_LIMIT`; any other
@@ -56,6 +59,7 @@ pub(crate) struct WebRoom<'a> {
     web: Option<&'a Web<'a>>,
     lounge: Lounge,
     kept: Mutex<Kept<Global>>,
+    tally: Tally,
 }
 
 impl<'a> WebRoom<'a> {
@@ -68,6 +72,7 @@ impl<'a> WebRoom<'a> {
             web,
             lounge,
             kept: Mutex::new(Kept::new(heap)),
+            tally: Tally::new(),
         })
     }
 
@@ -79,6 +84,8 @@ impl<'a> WebRoom<'a> {
             anonymous: web.anonymous,
             keys: web.keys,
             trusted_field: web.trusted_field,
+            metrics: web.metrics,
+            tally: &self.tally,
             kept: &self.kept,
             random: web.random,
             patience: web.patience,

@@ -13,6 +13,7 @@ returns-in-Some g c =
       refl,
       refl,
       refl,
+      refl,
       inr (record {
         before = told.later;
         published = told.published;
@@ -28,4 +29,4 @@ returns-in-Some g c =
 pub returns-in-None : goal.returns-in-None
 returns-in-None g c =
     let s = c.args.self.now in
-    (refl, refl, refl, inl (ap (λ (view : List DeciderData). session s.earlier s.seats.now.items view) c.in-None.ensures.none, ap line c.hall_reply.ensures))
+    (refl, refl, refl, refl, inl (ap (λ (view : List DeciderData). session s.earlier s.seats.now.items view) c.in-None.ensures.none, ap line c.hall_reply.ensures))

@@ -18,13 +18,15 @@ returns-in-Err g c =
       refl,
       refl,
       refl,
+      refl,
       called (λ list. line (Edition (last_edition list))) (λ list. PutsInForce c.args.document list) (Err c.in-Err.fault) _ _ _ seat here
-          (ap line c.hall_reply.ensures) (ap (λ (seats : List SeatData). session s.earlier seats s.view.now) same),
+          (ap line c.hall_reply-reply.ensures) (ap (λ (seats : List SeatData). session s.earlier seats s.view.now) same),
     )
 
 pub returns-in-Ok : goal.returns-in-Ok
 returns-in-Ok g c =
     let s = c.args.self.now in (
+      refl,
       refl,
       refl,
       refl,

@@ -6,4 +6,4 @@ use Rattle.hall_sessions.proofs.attended.AttendedService.hello.Goals as goal
 
 pub returns-in-Err : goal.returns-in-Err
 returns-in-Err g c =
-    (refl, refl, refl, inl (Err (Memory c.in-Err.no_memory), refl, ap (λ (seats : List SeatData). session c.args.self.now.earlier seats c.args.self.now.view.now) c.in-Err.ensures.items))
+    (refl, refl, refl, refl, inl (Err (Memory c.in-Err.no_memory), refl, ap (λ (seats : List SeatData). session c.args.self.now.earlier seats c.args.self.now.view.now) c.in-Err.ensures.items))
