@@ -14,8 +14,9 @@ use std::io::{Read, Write};
 /// What is wanted of a server.
 #[derive(Clone, Copy)]
 pub struct Wanted<'a> {
-    /// The subject whose session it is.
-    pub subject: &'a [u8],
+    /// What stands behind HELLO: the name of the subject whose session it is, and its secret where
+    /// the server asks for one.
+    pub hello: &'a [u8],
     /// The text of the window.
     pub window: &'a [u8],
     /// The class of the features; `None` for all.
@@ -74,15 +75,16 @@ fn ask<W: Write>(word: &[u8], text: &[u8], writer: &mut W) -> Result<(), ListFau
     Ok(())
 }
 
-/// Says HELLO as a subject, and reads the answer.
+/// Says HELLO with these words, the subject's name and its secret where the server asks for one, and
+/// reads the answer.
 pub fn greet<A: Allocator + Copy, R: Read, W: Write>(
     alloc: A,
-    subject: &[u8],
+    hello: &[u8],
     peer: &mut Peer<A>,
     reader: &mut R,
     writer: &mut W,
 ) -> Result<(), ExportFault<A>> {
-    ask(b"HELLO ", subject, writer)?;
+    ask(b"HELLO ", hello, writer)?;
     let mut line = Vec::new(alloc);
     peer.read_line(reader, &mut line)?;
     if line.as_slice().starts_with(b"hello ") {
@@ -170,7 +172,7 @@ pub fn export<A: Allocator + Copy, R: Read, W: Write, O: Write>(
     output: &mut O,
 ) -> Result<u64, ExportFault<A>> {
     let mut peer = Peer::new(alloc);
-    greet(alloc, wanted.subject, &mut peer, reader, writer)?;
+    greet(alloc, wanted.hello, &mut peer, reader, writer)?;
     let rows = search(alloc, wanted.window, &mut peer, reader, writer)?;
     put_head(wanted.form, output)?;
     let count = pass_rows(alloc, rows, wanted, &mut peer, reader, output)?;

@@ -2,37 +2,30 @@
 //! `program`; its server, in `server`; how it talks to one, in `client`.
 #![tactic(auto)]
 
-mod new_secrets;
 mod stores;
-mod transfers;
 mod web_plans;
 
-use crate::new_secrets::make_secret;
-use crate::stores::{Alarm, StoreToOpen, look_at_store, run_stored};
-use crate::transfers::{run_export, run_import};
+use crate::stores::{Alarm, StoreToOpen};
 use crate::web_plans::{WebFault, WebPlan};
 use byte_streams::{WriteFailed, flush, let_go, write_shown};
-use client::{End, TalkFault, talk};
 use command_line::{Waits, WordsFault, host_words};
+use commands::{connect, fail, look_at_store, make_secret, run_stored, transfer};
 use configuration::Config;
+use credentials::Key;
 use features::Subjects;
-use grid::Grid;
 use log::{Log, warn};
 use map_pages::Site;
-use memory::{NoMemory, another, buffered, shared, text};
+use memory::{NoMemory, another, buffered, copied, shared, text};
 use policy_text::{Document, print_document};
-use program::{
-    HostFolder, Next, ProgramFault, TransferWords, WantedServer, WantedTransfer, run_program, tell,
-};
+use program::{HostFolder, Next, ProgramFault, WantedServer, run_program};
 use server::{
     Begins, Closed, Connections, Keeping, Rests, ServerFault, Serving, SocketOptions, Stop,
     TERM_RECORDS, serve_kept, serve_socket, watch,
 };
 use std::alloc::Global;
 use std::fs::{File, Files};
-use std::io::{IsTerminal, Print, Read, Stderr, Stdin, Write};
+use std::io::{Print, Stderr, Write};
 use std::net::{Net, TcpListener, TcpStream};
-use std::os::unix::net::UnixStream;
 use std::process::ExitCode;
 use std::sync::{Arc, Wait};
 use std::thread::Threads;
@@ -42,14 +35,6 @@ use world::FeatureLimit;
 
 /// The exit status if the command line is wrong.
 const TURNED_DOWN: u8 = 2;
-
-/// Reports a fault that occurred outside `run_program`, and returns the status of `Ended::Failed`.
-/// `Ended::Failed` is not built here because it owns its fault, and rattle proves no function here
-/// that takes a fault by value.
-pub(crate) fn fail(fault: &ProgramFault<'_>, errors: &mut Stderr) -> ExitCode {
-    let _ = tell(fault, errors);
-    ExitCode::from(1)
-}
 
 /// The words with which the program was started, or the exit status if there are none.
 fn given_words(rt: &HostRuntime, errors: &mut Stderr) -> Result<Vec<String>, ExitCode> {
@@ -102,6 +87,8 @@ struct Plan {
     connections: Connections,
     idle: Option<u64>,
     takeover: bool,
+    /// The keys of those who may begin a session of lines.
+    keys: Vec<Key>,
     /// What is answered by HTTP, if anything is.
     web: Option<WebPlan>,
     /// How the server is told to accept no more connections.
@@ -191,6 +178,7 @@ fn planned(rt: &HostRuntime, server: WantedServer<'_>) -> Result<Plan, WebFault>
         grid,
         web,
     } = config;
+    let keys = copied(heap, web.keys.as_slice())?;
     let web = match http {
         Some(word) => Some(WebPlan::new(rt, word, http_workers, grid, web)?),
         None => None,
@@ -211,6 +199,7 @@ fn planned(rt: &HostRuntime, server: WantedServer<'_>) -> Result<Plan, WebFault>
         connections: connections(options.connections),
         idle: options.idle_seconds.map(u64::from),
         takeover: options.takeover,
+        keys,
         web,
         stop,
         stopping,
@@ -219,10 +208,11 @@ fn planned(rt: &HostRuntime, server: WantedServer<'_>) -> Result<Plan, WebFault>
 
 /// How connections are served.
 #[derive(Clone, Copy)]
-struct Manner {
+struct Manner<'a> {
     connections: Connections,
     idle: Option<u64>,
     takeover: bool,
+    keys: &'a [Key],
 }
 
 /// Serves a socket until its last connection has ended, and returns the exit status. `own` is the
@@ -270,7 +260,7 @@ fn serve_site<'a, H, R>(
     heap: Global,
     path: &str,
     work: Work,
-    manner: Manner,
+    manner: Manner<'a>,
     stop: &'a Stop,
     plan: &'a WebPlan,
     site: &'a Site<'a>,
@@ -291,6 +281,7 @@ where
         connections,
         idle,
         takeover,
+        keys,
     } = manner;
     let web = plan.web(site);
     let options = SocketOptions {
@@ -298,6 +289,7 @@ where
         idle,
         takeover,
         stop: Some(stop),
+        keys,
         web: Some(&web),
     };
     serve_work(rt, own, heap, path, work, options, plan.shown(), errors)
@@ -310,7 +302,7 @@ fn serve_web<H, R>(
     heap: Global,
     path: &str,
     work: Work,
-    manner: Manner,
+    manner: Manner<'_>,
     stop: &Stop,
     plan: &WebPlan,
     errors: &mut Stderr,
@@ -350,16 +342,19 @@ where
         connections,
         idle,
         takeover,
+        keys,
         web,
         stop,
         stopping: _stopping,
     } = plan;
     let path = path.as_str();
+    let keys = keys.as_slice();
     if let Some(plan) = &web {
         let manner = Manner {
             connections,
             idle,
             takeover,
+            keys,
         };
         return serve_web(rt, own, heap, path, work, manner, &stop, plan, errors);
     }
@@ -368,6 +363,7 @@ where
         idle,
         takeover,
         stop: Some(&stop),
+        keys,
         web: None,
     };
     serve_work(rt, own, heap, path, work, options, "", errors)
@@ -384,76 +380,6 @@ fn conclude<R: Print>(rt: &R, heap: Global, closed: Closed, errors: &mut Stderr)
     match told {
         Ok(()) => ExitCode::SUCCESS,
         Err(failed) => fail(&ProgramFault::CannotWrite(failed), errors),
-    }
-}
-
-/// Standard input. If `prompts` is set, each read is preceded by a prompt on standard error; it is
-/// set if standard input and standard error are terminals.
-#[derive(Drop)]
-struct Prompted {
-    input: Stdin,
-    errors: Stderr,
-    prompts: bool,
-}
-
-impl Read for Prompted {
-    fn read(&mut self, buffer: &mut [u8]) -> io::Result<usize> {
-        if self.prompts {
-            let _ = self.errors.write_all(b"> ");
-        }
-        self.input.read(buffer)
-    }
-}
-
-/// A connection to the server at a path, as its reader and its writer.
-fn connected<R: Net>(rt: &R, path: &str) -> io::Result<(UnixStream, UnixStream)> {
-    let stream = UnixStream::connect(rt, path)?;
-    let reader = stream.try_clone()?;
-    Ok((reader, stream))
-}
-
-/// Talks to the server at a path, from standard input to standard output, and returns the exit
-/// status.
-fn connect(rt: &HostRuntime, path: &str, errors: &mut Stderr) -> ExitCode {
-    let Ok((mut peer_in, mut peer_out)) = connected(rt, path) else {
-        return fail(&ProgramFault::CannotConnect(path), errors);
-    };
-    let mut output = match buffered(rt.alloc(), io::writer(rt)) {
-        Ok(output) => output,
-        Err(no_memory) => return fail(&ProgramFault::Memory(no_memory), errors),
-    };
-    let prompts = rt.stdin().is_terminal() && rt.stderr().is_terminal();
-    let mut input = Prompted {
-        input: rt.stdin(),
-        errors: rt.stderr(),
-        prompts,
-    };
-    let end = talk(
-        rt.alloc(),
-        &mut input,
-        &mut peer_in,
-        &mut peer_out,
-        &mut output,
-    );
-    let _ = let_go(output);
-    match end {
-        Ok(talked) => {
-            if prompts && talked.end == End::AtEnd {
-                let _ = errors.write_all(b"\n");
-            }
-            ExitCode::SUCCESS
-        }
-        Err(TalkFault::Output(failed)) => fail(&ProgramFault::CannotWrite(failed), errors),
-        Err(fault) => fail(&ProgramFault::Talk(fault.word()), errors),
-    }
-}
-
-/// Exports or imports, and returns the exit status. Without a grid coordinates are whole numbers.
-fn transfer(rt: &HostRuntime, wanted: WantedTransfer<'_>, errors: &mut Stderr) -> ExitCode {
-    let grid = wanted.grid.unwrap_or(Grid::whole_numbers());
-    match wanted.words {
-        TransferWords::Export(given) => run_export(rt, given, grid, errors),
-        TransferWords::Import(given) => run_import(rt, given, grid, errors),
     }
 }
 

@@ -174,6 +174,7 @@ impl WebPlan {
             anonymous: self.said.anonymous,
             keys: self.said.keys.as_slice(),
             trusted_field: self.said.trusted_field,
+            metrics: self.said.metrics,
             random: self.random,
             workers: self.workers,
             patience: PATIENCE,

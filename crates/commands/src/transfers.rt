@@ -1,7 +1,9 @@
 //! Exports and imports: the files and the sockets that they open. What they do is in the crate
 //! `exchange`.
 
-use crate::{connected, fail};
+use crate::greetings::greeting;
+use crate::talks::connected;
+use crate::telling::fail;
 use byte_streams::{flush, let_go, open_file, write_shown, write_whole};
 use command_line::{ExportWords, Format, ImportWords};
 use configuration::ReadFault;
@@ -14,7 +16,7 @@ use features::Name;
 use grid::Grid;
 use importing::{Pause, Peer, Refused, Server, progress_text, read_progress};
 use memory::{GrowText, NoMemory, buffered, text};
-use program::ProgramFault;
+use program::{ProgramFault, TransferWords, WantedTransfer};
 use std::alloc::Global;
 use std::fs::File;
 use std::io::{IsTerminal, Read, Stderr, Write};
@@ -92,7 +94,7 @@ fn tell_export(fault: &ExportFault<Global>, errors: &mut Stderr) -> ExitCode {
 }
 
 /// Writes the features of a server to standard output, and returns the exit status.
-pub(crate) fn run_export(
+fn run_export(
     rt: &HostRuntime,
     given: ExportWords<'_>,
     grid: Grid,
@@ -112,6 +114,7 @@ fn exported(
     errors: &mut Stderr,
 ) -> Result<(), ExitCode> {
     let subject = name_of(given.subject, errors)?;
+    let hello = greeting(rt, subject, errors)?;
     let class = class_of(given.class, errors)?;
     let window = match window_of(rt.alloc(), &grid, given.window) {
         Ok(window) => window,
@@ -125,7 +128,7 @@ fn exported(
         Err(no_memory) => return Err(fail(&ProgramFault::Memory(no_memory), errors)),
     };
     let wanted = Wanted {
-        subject: subject.as_bytes(),
+        hello: hello.as_slice(),
         window: window.as_bytes(),
         class,
         grid,
@@ -384,7 +387,7 @@ fn imported<S: Sink>(
 
 /// Adds the features of a file to a server, or writes their session lines, and returns the exit
 /// status.
-pub(crate) fn run_import(
+fn run_import(
     rt: &HostRuntime,
     given: ImportWords<'_>,
     grid: Grid,
@@ -474,13 +477,14 @@ fn sent_import(
     input: &mut File,
     errors: &mut Stderr,
 ) -> Result<(), ExitCode> {
+    let hello = greeting(rt, subject, errors)?;
     let Ok((mut reader, mut writer)) = connected(rt, socket) else {
         return Err(fail(&ProgramFault::CannotConnect(socket), errors));
     };
     let mut peer = Peer::new(rt.alloc());
     if let Err(fault) = greet(
         rt.alloc(),
-        subject.as_bytes(),
+        hello.as_slice(),
         &mut peer,
         &mut reader,
         &mut writer,
@@ -514,5 +518,14 @@ fn sent_import(
     match write_shown(&Account { totals }, &mut output) {
         Ok(()) => Ok(()),
         Err(failed) => Err(fail(&ProgramFault::CannotWrite(failed), errors)),
+    }
+}
+
+/// Exports or imports, and returns the exit status. Without a grid coordinates are whole numbers.
+pub fn transfer(rt: &HostRuntime, wanted: WantedTransfer<'_>, errors: &mut Stderr) -> ExitCode {
+    let grid = wanted.grid.unwrap_or(Grid::whole_numbers());
+    match wanted.words {
+        TransferWords::Export(given) => run_export(rt, given, grid, errors),
+        TransferWords::Import(given) => run_import(rt, given, grid, errors),
     }
 }

@@ -1,6 +1,6 @@
 //! Makes a secret by which a subject asks by HTTP.
 
-use crate::fail;
+use crate::telling::fail;
 use byte_streams::let_go;
 use features::Name;
 use memory::buffered;
@@ -19,7 +19,7 @@ const NO_RANDOMNESS: &str = "no randomness";
 
 /// Draws a secret from the host's own randomness, prints it and its entry for a subject, and returns
 /// the exit status. The secret is kept nowhere.
-pub(crate) fn make_secret(rt: &HostRuntime, name: &str, errors: &mut Stderr) -> ExitCode {
+pub fn make_secret(rt: &HostRuntime, name: &str, errors: &mut Stderr) -> ExitCode {
     let Some(subject) = Name::new(name.as_bytes()) else {
         return fail(&ProgramFault::Talk(NO_NAME), errors);
     };
