@@ -20,7 +20,7 @@ fn exports(
     written: &mut Vec<u8>,
 ) -> Result<u64, ExportFault<Global>> {
     let wanted = Wanted {
-        subject: b"north",
+        hello: b"north",
         window: b"POINT (1 2)",
         class,
         grid: Grid::whole_numbers(),

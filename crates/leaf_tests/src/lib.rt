@@ -1,5 +1,5 @@
 //! Tests of the crates that use no other crate of this repository, or few. Each of these crates has
-//! a file here.
+//! a file here, or two.
 #![tactic(auto)]
 
 #[cfg(test)]
@@ -13,8 +13,14 @@ mod lines;
 #[cfg(test)]
 mod plane_tests;
 #[cfg(test)]
+mod policies;
+#[cfg(test)]
 mod policy_text_tests;
 #[cfg(test)]
+mod publishing_tests;
+#[cfg(test)]
 mod refusing_tests;
+#[cfg(test)]
+mod view_tests;
 #[cfg(test)]
 mod wkt_tests;

@@ -5,6 +5,8 @@ use credentials::Key;
 use features::Name;
 use http_counters::Counter;
 use http_server::{Config, Connection, serve};
+use map_calls::Pieces;
+use map_metrics::Tally;
 use map_pages::Site;
 use map_sessions::{Host, Kept};
 use scripts::Solo;
@@ -13,6 +15,7 @@ use std::hash::RandomState;
 use std::process::Abort;
 use std::sync::{Mutex, Wait};
 use std::test::Fail;
+use std::time::Clock;
 
 /// Requests, one behind the other on one connection.
 const SENT: &str =
@@ -70,12 +73,37 @@ pub(crate) struct Door<'a> {
 
 /// Looks whether what a server of this address sends has these parts, in this order; a part that
 /// begins a response is in the next one.
-pub(crate) fn look<R: Abort + Wait>(
+pub(crate) fn look<R: Abort + Wait + Clock>(
     rt: &R,
     heap: Global,
     state: RandomState,
     base: &[u8],
     door: &Door,
+    sent: &[&str],
+    received: &[&str],
+) -> Result<(), Fail> {
+    let watch = Watch {
+        tally: &Tally::new(),
+        reader: None,
+    };
+    look_watched(rt, heap, state, base, door, watch, sent, received)
+}
+
+/// What is counted, and who may read it.
+#[derive(Clone, Copy)]
+pub(crate) struct Watch<'a> {
+    pub tally: &'a Tally,
+    pub reader: Option<Name>,
+}
+
+/// The same, by a server that somebody may watch.
+pub(crate) fn look_watched<R: Abort + Wait + Clock>(
+    rt: &R,
+    heap: Global,
+    state: RandomState,
+    base: &[u8],
+    door: &Door,
+    watch: Watch,
     sent: &[&str],
     received: &[&str],
 ) -> Result<(), Fail> {
@@ -89,6 +117,7 @@ pub(crate) fn look<R: Abort + Wait>(
         map: b"<!DOCTYPE html>",
     };
     let kept = Mutex::new(Kept::new(heap));
+    let pieces = Mutex::new(Pieces::new(heap));
     let mut counter = Counter {
         rt,
         heap,
@@ -100,6 +129,9 @@ pub(crate) fn look<R: Abort + Wait>(
         },
         session: Solo::new(&mut world, heap),
         kept: &kept,
+        pieces: &pieces,
+        tally: watch.tally,
+        reader: watch.reader,
     };
     let mut connection = Connection::new(heap, state, Config::default());
     let mut bytes = Vec::new(heap);

@@ -4,10 +4,16 @@
 #[cfg(test)]
 mod asker_tests;
 #[cfg(test)]
+mod call_tests;
+#[cfg(test)]
 mod change_tests;
 #[cfg(test)]
 mod http_tests;
 #[cfg(test)]
 mod kept_tests;
+#[cfg(test)]
+mod list_tests;
+#[cfg(test)]
+mod metrics_tests;
 #[cfg(test)]
 mod visits_tests;

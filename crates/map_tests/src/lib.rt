@@ -9,3 +9,5 @@ mod asks_tests;
 mod change_tests;
 #[cfg(test)]
 mod pages_tests;
+#[cfg(test)]
+mod question_tests;

@@ -40,7 +40,7 @@ fn right_ones(rt: HostRuntime) -> Result<(), Fail> {
 }
 
 /// What a configuration says of HTTP, with the line that is written of it.
-const SAID_OF_HTTP: [(&str, &str); 15] = [
+const SAID_OF_HTTP: [(&str, &str); 17] = [
     (r#""collections":[]"#, ""),
     (r#""collections":["mast"]"#, "http: 1 collection\n"),
     (
@@ -50,6 +50,14 @@ const SAID_OF_HTTP: [(&str, &str); 15] = [
     (
         r#""anonymous":"a""#,
         "http: 0 collections, requests without a name are a's\n",
+    ),
+    (
+        r#""metrics":"b""#,
+        "http: 0 collections, metrics are for b\n",
+    ),
+    (
+        r#""trusted-field":true,"metrics":"b","anonymous":"a""#,
+        "http: 0 collections, requests without a name are a's, metrics are for b, the field landmap-subject is trusted\n",
     ),
     (
         r#""public":"http://x""#,
@@ -110,12 +118,15 @@ fn said_of_http(rt: HostRuntime) -> Result<(), Fail> {
 }
 
 /// What is wrong of what is said of HTTP, with its place.
-const WRONG_OF_HTTP: [(&str, &str); 45] = [
+const WRONG_OF_HTTP: [(&str, &str); 48] = [
     (r#""anonymous":null"#, "/anonymous"),
     (r#""anonymous":"c""#, "/anonymous"),
     (r#""anonymous":"A""#, "/anonymous"),
     (r#""anonymous":"""#, "/anonymous"),
     (r#""anonymous":["a"]"#, "/anonymous"),
+    (r#""metrics":true"#, "/metrics"),
+    (r#""metrics":"c""#, "/metrics"),
+    (r#""metrics":"c","public":1"#, "/metrics"),
     (r#""public":1"#, "/public"),
     (r#""public":"""#, "/public"),
     (r#""public":"maps.agency.example""#, "/public"),

@@ -66,7 +66,7 @@ fn subjects_and_document(rt: HostRuntime) {
 
 /// A configuration of two subjects that says all that may be said of HTTP.
 const HTTP: &str = r#"{"policies":{"root":{"policy":"p","combine":"deny-overrides","rules":[]}},
- "collections":["mast","road-2"],"public":"https://maps.agency.example/map","anonymous":"ada",
+ "collections":["mast","road-2"],"public":"https://maps.agency.example/map","anonymous":"ada","metrics":"ines",
  "keys":[{"sha256":"00112233445566778899AABBccddeeff0102030405060708090a0b0c0d0e0f10","subject":"ines"},
   {"subject":"ada","sha256":"ffffffffffffffffffffffffffffffffffffffffffffffffffffffffffffffff"}],"trusted-field":false,
  "subjects":[{"role":"editor","office":"north","name":"ines"},
@@ -79,6 +79,11 @@ fn says_of_http<A: Allocator>(rt: &impl Abort, config: &Config<A>) {
         .anonymous
         .map(|name| name.as_bytes() == b"ada".as_slice());
     assert_eq!(rt; anonymous, Some(true));
+    let metrics = config
+        .web
+        .metrics
+        .map(|name| name.as_bytes() == b"ines".as_slice());
+    assert_eq!(rt; metrics, Some(true));
     let public = match &config.web.public {
         Some(public) => public.as_str(),
         None => "",
@@ -118,6 +123,7 @@ fn said_of_http(rt: HostRuntime) {
     match read_config(rt.alloc(), rt.alloc(), TWO.as_bytes()) {
         Ok(config) => {
             assert!(rt; config.web.anonymous.is_none());
+            assert!(rt; config.web.metrics.is_none());
             assert!(rt; config.web.public.is_none());
             assert_eq!(rt; config.web.collections.len(), 0);
             assert_eq!(rt; config.web.keys.len(), 0);

@@ -1,5 +1,5 @@
-//! Tests of configurations, of the program's runs, of secrets, and of command lines for a server, for
-//! a talk with one, for a secret, for an export and for an import.
+//! Tests of configurations, of the program's runs, of secrets, of command lines for a server, for a talk
+//! with one, for a secret, for an export and for an import, and of talks.
 #![tactic(auto)]
 
 #[cfg(test)]
@@ -9,6 +9,8 @@ mod config_tests;
 #[cfg(test)]
 mod connect_tests;
 #[cfg(test)]
+mod fault_tests;
+#[cfg(test)]
 mod run_tests;
 #[cfg(test)]
 mod running;
@@ -16,5 +18,9 @@ mod running;
 mod secret_tests;
 #[cfg(test)]
 mod serve_tests;
+#[cfg(test)]
+mod talk_tests;
+#[cfg(test)]
+mod talking;
 #[cfg(test)]
 mod transfer_tests;

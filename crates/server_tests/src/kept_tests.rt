@@ -125,12 +125,13 @@ pub fn keeping(rt: &impl Abort, rests: Rests) -> Keeping {
 }
 
 /// So many connections.
-const fn connections(connections: u16) -> SocketOptions<'static> {
+fn connections(connections: u16) -> SocketOptions<'static> {
     SocketOptions {
         connections: Connections::UpTo(connections),
         idle: None,
         takeover: false,
         stop: None,
+        keys: &[],
         web: None,
     }
 }

@@ -24,6 +24,7 @@ fn short_halls(stop: &Stop) -> SocketOptions<'_> {
         idle: None,
         takeover: false,
         stop: Some(stop),
+        keys: &[],
         web: None,
     }
 }

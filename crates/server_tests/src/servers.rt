@@ -1,10 +1,11 @@
 //! What the tests serve.
+use credentials::{Key, digest_of};
 use decision::Decider;
 use features::{Name, Subject, Subjects};
 use hall::{Closed, Pause};
 use log::Log;
 use policy_text::{Document, read_document};
-use server::{Begins, Restored, Serving, WORKER_COUNT, serve_streams};
+use server::{Begins, Caller, Restored, Serving, WORKER_COUNT, serve_streams};
 use std::alloc::Global;
 use std::io::{Read, Write};
 use std::process::Abort;
@@ -82,7 +83,15 @@ pub fn serving(rt: &impl Abort, heap: Global) -> Serving {
     serving_by(rt, heap, WORKER_COUNT)
 }
 
-/// What closing yields after this many workers have served these streams.
+/// The key of a subject's secret.
+pub fn key_of(rt: &impl Abort, subject: &[u8], secret: &[u8]) -> Key {
+    Key {
+        subject: Name::new(subject).expect(rt, "a name"),
+        digest: digest_of(secret),
+    }
+}
+
+/// What closing yields after this many workers have served these streams, whose HELLO is believed.
 pub fn closed_by<H, R, I, O, G>(
     rt: &R,
     own: H,
@@ -97,13 +106,33 @@ where
     O: Write + Drop + Send,
     G: Pause + Drop + Send,
 {
-    match serve_streams(
-        rt,
-        own,
-        heap,
-        serving_by(rt, heap, workers),
-        streams.into_iter(),
-    ) {
+    closed_with(rt, own, heap, workers, &[], streams)
+}
+
+/// The same where these keys let sessions begin.
+pub fn closed_with<H, R, I, O, G>(
+    rt: &R,
+    own: H,
+    heap: Global,
+    workers: usize,
+    keys: &[Key],
+    streams: Vec<(I, O, G)>,
+) -> Closed
+where
+    H: Wait + Drop + Send,
+    R: Threads + Wait + Clock + Log + Abort + Sync,
+    I: Read + Drop + Send,
+    O: Write + Drop + Send,
+    G: Pause + Drop + Send,
+{
+    let callers = streams.into_iter().map(|(reader, writer, pause)| Caller {
+        reader,
+        writer,
+        pause,
+        keys,
+        tally: None,
+    });
+    match serve_streams(rt, own, heap, serving_by(rt, heap, workers), callers) {
         Ok(closed) => closed,
         Err(fault) => panic!(rt; "{fault}"),
     }

@@ -13,13 +13,16 @@ use std::test::Fail;
 use std::{fs, thread};
 
 /// One connection, without an idle limit.
-const ONE: SocketOptions<'static> = SocketOptions {
-    connections: Connections::UpTo(1),
-    idle: None,
-    takeover: false,
-    stop: None,
-    web: None,
-};
+fn one() -> SocketOptions<'static> {
+    SocketOptions {
+        connections: Connections::UpTo(1),
+        idle: None,
+        takeover: false,
+        stop: None,
+        keys: &[],
+        web: None,
+    }
+}
 
 /// Checks that the path is free again.
 fn check_removed<R: Files + Abort>(rt: &R, path: &str) {
@@ -39,7 +42,7 @@ fn a_first_point(rt: HostRuntime) -> Result<(), Fail> {
         "HELLO north\nADD 1 mast POINT (3 4)\nCOMMIT\nSEARCH point(3 4)\nSEARCH POINT (3 5)\nBYE\n";
     let (served, told) = thread::join(
         &rt,
-        || serve_socket(&rt, rt, heap, path, serving, ONE),
+        || serve_socket(&rt, rt, heap, path, serving, one()),
         || told(&rt, heap, path, lines.as_bytes()),
     );
     assert_eq!(rt;
@@ -71,7 +74,7 @@ fn policy_then_explain(rt: HostRuntime) -> Result<(), Fail> {
     )?;
     let (served, told) = thread::join(
         &rt,
-        || serve_socket(&rt, rt, heap, path, serving, ONE),
+        || serve_socket(&rt, rt, heap, path, serving, one()),
         || told(&rt, heap, path, lines.as_bytes()),
     );
     assert_eq!(rt;
@@ -100,10 +103,11 @@ fn a_path_that_is_taken(rt: HostRuntime) -> Result<(), Fail> {
         idle: None,
         takeover: true,
         stop: None,
+        keys: &[],
         web: None,
     };
     assert_eq!(rt;
-        serve_socket(&rt, rt, heap, path, serving(&rt, heap), ONE),
+        serve_socket(&rt, rt, heap, path, serving(&rt, heap), one()),
         Err(ServerFault::Bind)
     );
     // Somebody listens there.
@@ -114,7 +118,7 @@ fn a_path_that_is_taken(rt: HostRuntime) -> Result<(), Fail> {
     drop(listener);
     // Nobody listens any more, but the file still exists.
     assert_eq!(rt;
-        serve_socket(&rt, rt, heap, path, serving(&rt, heap), ONE),
+        serve_socket(&rt, rt, heap, path, serving(&rt, heap), one()),
         Err(ServerFault::Bind)
     );
     fs::remove_file(&rt, path)?;
@@ -135,6 +139,7 @@ fn a_socket_is_taken_over(rt: HostRuntime) -> Result<(), Fail> {
         idle: None,
         takeover: true,
         stop: Some(&stop),
+        keys: &[],
         web: None,
     };
     assert_eq!(rt;
@@ -158,6 +163,7 @@ fn a_file_is_not_taken_over(rt: HostRuntime) -> Result<(), Fail> {
         idle: None,
         takeover: true,
         stop: None,
+        keys: &[],
         web: None,
     };
     assert_eq!(rt;
@@ -188,6 +194,7 @@ fn a_silent_client_is_left(rt: HostRuntime) -> Result<(), Fail> {
         idle: Some(1),
         takeover: false,
         stop: None,
+        keys: &[],
         web: None,
     };
     let (served, left) = thread::join(

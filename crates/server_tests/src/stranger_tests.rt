@@ -20,6 +20,7 @@ fn connections(count: u16) -> SocketOptions<'static> {
         idle: None,
         takeover: false,
         stop: None,
+        keys: &[],
         web: None,
     }
 }

@@ -1,6 +1,6 @@
 //! Streams in memory, served concurrently.
 use crate::memory_streams::{Meeting, Replies, check_told, failing, whole};
-use crate::servers::closed_by;
+use crate::servers::{closed_by, closed_with, key_of};
 use failing_streams::Failure;
 use hall::{Closed, NoPause};
 use server::WORKER_COUNT;
@@ -104,6 +104,36 @@ fn lines_of_a_session(rt: HostRuntime) -> Result<(), Fail> {
     let told = whole(heap);
     let streams = vec![in heap; (lines.as_bytes(), Replies::kept_in(&rt, &told), NoPause)]?;
     let closed = closed_by(&rt, rt, heap, WORKER_COUNT, streams);
+    assert_eq!(rt;
+        closed,
+        Closed {
+            records: 1,
+            seats: 1
+        }
+    );
+    check_told(&rt, told, replies);
+    Ok(())
+}
+
+#[test]
+fn a_secret_stands_behind_the_name(rt: HostRuntime) -> Result<(), Fail> {
+    let heap: Global = rt.alloc();
+    let keys = [
+        key_of(&rt, b"north", b"a-secret"),
+        key_of(&rt, b"north", b"another"),
+        key_of(&rt, b"south", b"a-third"),
+    ];
+    let lines = concat!(
+        "COMMIT\nHELLO\nHELLO north\nHELLO North x\nHELLO north a-third\nHELLO north a-secret more\n",
+        "HELLO chief a-secret\n  HELLO   north   another  \nHELLO north\nADD 1 mast POINT (3 4)\nCOMMIT\nBYE\n"
+    );
+    let replies = concat!(
+        "error E5\nerror E2\nerror E2\nerror E4\nerror H1\nerror E2\n",
+        "error H1\nhello north\nerror E6\nstaged\napplied 1\nbye\n"
+    );
+    let told = whole(heap);
+    let streams = vec![in heap; (lines.as_bytes(), Replies::kept_in(&rt, &told), NoPause)]?;
+    let closed = closed_with(&rt, rt, heap, 1, &keys, streams);
     assert_eq!(rt;
         closed,
         Closed {

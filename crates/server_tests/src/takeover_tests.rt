@@ -39,6 +39,7 @@ fn takes_over(connections: u16) -> SocketOptions<'static> {
         idle: None,
         takeover: true,
         stop: None,
+        keys: &[],
         web: None,
     }
 }
@@ -180,6 +181,7 @@ fn the_end_of_an_input_stops_a_server(rt: HostRuntime) {
         idle: None,
         takeover: false,
         stop: Some(&stop),
+        keys: &[],
         web: None,
     };
     let (closed, told) = thread::join(
@@ -212,6 +214,7 @@ fn nobody_is_served_behind_a_stop(rt: HostRuntime) {
         idle: None,
         takeover: false,
         stop: Some(&stop),
+        keys: &[],
         web: None,
     };
     let (closed, replies) = thread::join(

@@ -36,6 +36,7 @@ fn with_web<'a>(stop: &'a Stop, web: &'a Web<'a>) -> SocketOptions<'a> {
         idle: None,
         takeover: false,
         stop: Some(stop),
+        keys: &[],
         web: Some(web),
     }
 }
@@ -53,6 +54,7 @@ fn web<'a>(
         anonymous: Name::new(b"south"),
         keys: &[],
         trusted_field: false,
+        metrics: None,
         random,
         workers,
         patience: 30_000,

@@ -1,5 +1,0 @@
-//! Tests of `shelf`, on the disk.
-#![tactic(auto)]
-
-#[cfg(test)]
-mod shelf_tests;
