@@ -52,7 +52,7 @@ asked 412 "\"code\":\"stale\",\"current\":${second//\"/}" PUT $items/7 "$(mast 7
 asked 204 "" PATCH $items/7 "$(mast 7 46.0000060)" "$ines" "Content-Type: application/merge-patch+json" "If-Match: $second"
 third=$(tag)
 answers $items/7 "200 OK" '"coordinates":[7.0000010,46.0000060]' '"class":"mast"'
-told=$(talk map.sock "HELLO ines" "SEARCH POINT (10 60)" BYE)
+told=$(talk map.sock "HELLO ines $secret" "SEARCH POINT (10 60)" BYE)
 [[ $told == *"POINT (10 60)"* ]] || fail "a session does not find it: $told"
 # It is deleted, by who may.
 asked 405 '"code":"method"' DELETE /collections/mast/items/7 "" "$ines" "If-Match: $third"

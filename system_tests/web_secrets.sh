@@ -9,7 +9,7 @@ mkfifo input
 exec {keeps}<> input
 held+=("$keeps")
 input=input web_server one map.sock --until-stdin-ends
-told=$(talk map.sock "HELLO ines" "ADD 1 mast POINT (10 20)" "ADD 2 road LINESTRING (0 0, 40 40)" COMMIT BYE)
+told=$(talk map.sock "HELLO ines $secret" "ADD 1 mast POINT (10 20)" "ADD 2 road LINESTRING (0 0, 40 40)" COMMIT BYE)
 [ "$(tail -n 2 <<< "$told")" = $'applied 1\nbye' ] || fail "$told"
 basic=$(printf 'ines:%s' "$secret" | base64 -w 0)
 # asked FIELD STATUS TEXT: the whole collection of roads is asked for with this field.
