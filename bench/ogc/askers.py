@@ -114,7 +114,7 @@ class ByLine(Chance):
         """A session of this subject. Where no seat is left, or no worker, it waits."""
         for _ in range(100):
             self.session = Session(self.run.path)
-            if self.session.ask(f'HELLO {subject}') == [f'hello {subject}']:
+            if self.session.ask(self.run.hello(subject)) == [f'hello {subject}']:
                 self.subject = subject
                 return
             time.sleep(0.5)
@@ -251,7 +251,7 @@ class ByLine(Chance):
         """Lines that are refused by their form, and lists that are dropped: none of them has a record."""
         one = self.dice.choice((
             ('SEARCH POINT (3.5 4)', 'error K4'), ('SEARCH POLYGON ((0 0, 4 0, 1 1, 0 4, 0 0))', 'error P8'), ('ADD x mast POINT (1 1)', 'error E3'),
-            ('COMMIT', 'error E7'), ('search POINT (1 1)', 'error E2'), (f'HELLO {self.subject}', 'error E6'), ('DELETE 1', 'error E2'),
+            ('COMMIT', 'error E7'), ('search POINT (1 1)', 'error E2'), (self.run.hello(self.subject), 'error E6'), ('DELETE 1', 'error E2'),
             ('SEARCH LINESTRING (0 0, 10000001 0)', 'error K5'), ('EXPLAIN see roads road POINT (1 1)', 'error E4'), ('POLICY {"root":1}', 'error D2'),
             ('POLICY {', 'error D1'), ('ROLL', None if self.subject == self.run.steward or self.run.rolls_too else 'error X7'), ('twice', None)))
         if one[0] == 'twice':

@@ -273,6 +273,8 @@ class Looks:
         page.key('Enter', text='\r')
         told = page.wait(PANEL)
         self.look('Enter on the map tells of the nearest feature', told and page.run('document.activeElement.id') == 'panel', told)
+        leave = page.wait('/reshape: (permit|deny)[^]*edition/.test(document.querySelector("#panel dl").textContent) && /delete: (permit|deny)/.test(document.querySelector("#panel dl").textContent)', 5)
+        self.look('it tells what the policy says to a change of it', leave, page.run('document.querySelector("#panel dl").innerText').replace('\n', ' '))
         self.picture('chosen')
         page.key('Escape')
         self.click_on_a_point()

@@ -436,10 +436,12 @@ class Tests:
         self.made.discard(number)
 
     def run(self):
+        return self._run_all([name for name in vars(Tests) if not name.startswith('_') and name != 'run'])
+
+    def _run_all(self, names):
         passed = failed = 0
-        for name, test in vars(Tests).items():
-            if name.startswith('_') or name == 'run':
-                continue
+        for name in names:
+            test = getattr(type(self), name)
             try:
                 test(self)
                 passed += 1

@@ -1,7 +1,8 @@
 #!/usr/bin/env python3
-"""Mixed requests by many clients at once, and the trail as their judge: replayed.py BASE SOCKET --as NAME:SECRET --steward NAME
+"""Mixed requests by many clients at once, and the trail as their judge: replayed.py BASE SOCKET --as NAME:SECRET --steward NAME [--secret NAME:SECRET]..
 
 BASE is the address of a running server by HTTP, SOCKET its socket of session lines, NAME a subject with a secret, and the steward one.
+Session lines say secrets too, since the server's configuration has keys: --secret has that of the steward, and of `anonymous`.
 Half of the clients ask by HTTP, half by session lines: searches, pages, single features, changes, explanations, policies, rolls, and
 requests that are ill-formed or stale on purpose. Each keeps what it asked, what it was answered, and when. The steward puts policies of
 this script in force, so nobody else may use the server meanwhile, and its own policy is gone afterwards.
@@ -33,8 +34,13 @@ class Run:
     def __init__(self, told):
         self.told, self.base, self.path = told, told.base.rstrip('/'), told.socket
         self.name, self.steward = told.asker.split(':')[0], told.steward
+        self.secrets = dict(text.split(':', 1) for text in [told.asker, *told.secret])
         self.own = {'authorization': 'Basic ' + base64.b64encode(told.asker.encode()).decode()}
         self.log = Log()
+
+    def hello(self, name):
+        """The line by which a session of this subject begins."""
+        return f'HELLO {name} {self.secrets[name]}' if name in self.secrets else f'HELLO {name}'
 
     def begin(self):
         """Puts a policy in force by which all is permitted, and learns what the model begins with."""
@@ -45,7 +51,7 @@ class Run:
         self.unit, self.origin = Decimal(1).scaleb(west.as_tuple().exponent), ((west + east) / 2, (south + north) / 2)
         self.layers = [one['id'] for one in http.ask('/collections').json()['collections'] if one['id'] in CLASSES]
         chief = Session(self.path)
-        chief.ask(f'HELLO {self.steward}')
+        chief.ask(self.hello(self.steward))
         governed = chief.ask('POLICY ' + json.dumps(OPEN))[0]
         asked = http.ask('/collections/features/items?limit=1', fields=self.own).status
         if not governed.startswith('edition ') or asked != 200:
@@ -54,7 +60,7 @@ class Run:
         self.first = max((int(row.split()[0]) for row in chief.ask(f'SEARCH {WHOLE}')[1:]), default=0) + 10
         chief.commit([f'ADD {self.first - 1} mast POINT (0 0)'])
         other = Session(self.path)
-        other.ask(f'HELLO {self.name}')
+        other.ask(self.hello(self.name))
         other.commit([f'ADD {self.first - 2} mast POINT (1 1)'])
         self.rolls_too = other.ask('ROLL')[0].startswith('rolled')
         other.ask('BYE')
@@ -153,6 +159,7 @@ def main():
     parser.add_argument('socket')
     parser.add_argument('--as', dest='asker', required=True, metavar='NAME:SECRET')
     parser.add_argument('--steward', required=True, metavar='NAME')
+    parser.add_argument('--secret', action='append', default=[], metavar='NAME:SECRET')
     parser.add_argument('--requests', type=int, default=100_000, metavar='N')
     parser.add_argument('--clients', type=int, default=16, metavar='N')
     parser.add_argument('--seed', type=int, default=1, metavar='N')

@@ -341,6 +341,10 @@ class StandIn(http.server.BaseHTTPRequestHandler):
             if match[1] in CLASSES + ['features']:
                 return self.items(match[1], query)
         pairs = [pair for pair in query.split('&') if pair]
+        if path == '/explain':
+            kind = dict(urllib.parse.parse_qsl(query)).get('class')
+            rule = {'zone': 'zones-stay', 'sign': None}.get(kind, 'the-rest')
+            return self.send(200, 'application/json', json.dumps({'decision': 'deny' if kind in ('zone', 'sign') else 'permit', 'rule': rule, 'edition': 1}))
         fixed = self.fixed(path)
         if pairs:
             raise Fault(400, 'U2')
@@ -378,8 +382,10 @@ class StandIn(http.server.BaseHTTPRequestHandler):
             listed = ','.join(map(self.collection, ['features'] + CLASSES))
             return 'application/json', f'{{"links":[{self.link("self", "application/json", "/collections")}],"collections":[{listed}]}}'
         if path == '/api':
-            with open(os.path.join(HERE, '../../crates/map_pages/specs/Api.antt'), encoding='utf-8') as file:
-                parts = dict(re.findall(r'^(\w+) =\s+(.*)$', file.read(), re.M))
+            parts = {}
+            for name in ('Api', 'CallPaths'):
+                with open(os.path.join(HERE, f'../../crates/map_pages/specs/{name}.antt'), encoding='utf-8') as file:
+                    parts.update(re.findall(r'^(\w+) =\s+(.*)$', file.read(), re.M))
             return api, text_of('api_head', parts) + json.dumps(self.base) + text_of('paths_key', parts) + text_of('paths_text', parts)
         name = path.removeprefix('/collections/')
         if name != path and name in CLASSES + ['features']:
