@@ -114,6 +114,8 @@ pub struct Reception<'a> {
     pub tally: &'a Tally,
     /// The answers of which pages are still to come.
     pub kept: &'a Mutex<Kept<Global>>,
+    /// What was taken out of the trail and is still to be fetched.
+    pub pieces: &'a Mutex<Pieces<Global>>,
     /// Connections that wait.
     pub lounge: &'a Lounge,
     /// New connections. Their sender is dropped when nobody new comes.
@@ -302,8 +304,6 @@ impl Visitor {
             return false;
         };
         let mut pause = NoPause;
-        // No route leads to the trail, so nothing is ever kept here.
-        let pieces = Mutex::new(Pieces::new(heap));
         let mut counter = Counter {
             rt,
             heap,
@@ -324,7 +324,7 @@ impl Visitor {
                 Some(reception.tally),
             ),
             kept: reception.kept,
-            pieces: &pieces,
+            pieces: reception.pieces,
             tally: reception.tally,
             reader: reception.metrics,
         };

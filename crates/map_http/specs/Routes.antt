@@ -17,11 +17,10 @@ use Rattle.map_http.specs.declared.routes.Route.TheVariants.{Reading, Changing, 
 abbrev pub map_route : List ℕ → Route
 map_route method = if is_read method then Reading else Changing
 
--- a question to the policy, or a policy, is a call; the trail is not served
+-- a question to the policy, a policy, or the trail is a call
 abbrev pub call_route : List ℕ → Option Call → Route
-call_route method (Some Explain) = Calling Explain
-call_route method (Some Policy) = Calling Policy
-call_route method _ = map_route method
+call_route method (Some call) = Calling call
+call_route method None = map_route method
 
 -- by the path, and else by the method
 unfoldable pub route_of : Bool → List ℕ → List ℕ → Route

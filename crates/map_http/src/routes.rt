@@ -19,7 +19,7 @@ pub enum Route {
     Listing,
     /// It is read how the server does: `/metrics`, where somebody may read that.
     Watching,
-    /// The policy is asked for. No path leads to the trail: its pieces are not shared by threads.
+    /// The policy or the trail is asked for.
     Calling(Call),
 }
 
@@ -64,9 +64,8 @@ pub fn route_of(is_watched: bool, method: &http::Method, path: &[u8]) -> Route
         return Route::Watching;
     }
     match call_of(path) {
-        Some(Call::Explain) => Route::Calling(Call::Explain),
-        Some(Call::Policy) => Route::Calling(Call::Policy),
-        _ => map_route(method),
+        Some(call) => Route::Calling(call),
+        None => map_route(method),
     }
 }
 

@@ -1,4 +1,4 @@
--- What the description for programs says of lists of changes and of the policy.
+-- What the description for programs says of lists of changes, of the policy and of the trail.
 use Rattle.std.specs.Prelude.{ℕ, List, ◌++◌, codes}
 
 unfoldable pub lists_path : List ℕ
@@ -13,5 +13,13 @@ unfoldable pub policy_path : List ℕ
 policy_path =
     codes ",\"/policy\":{\"put\":{\"requestBody\":{\"required\":true,\"content\":{\"application/json\":{\"schema\":{\"type\":\"object\"}}}},\"responses\":{\"200\":{\"description\":\"it is in force\"},\"403\":{\"description\":\"who asks is no steward\"},\"422\":{\"description\":\"no policy document\"},\"default\":{\"description\":\"a problem\"}}}}"
 
+unfoldable pub trail_path : List ℕ
+trail_path =
+    codes ",\"/trail\":{\"post\":{\"responses\":{\"201\":{\"description\":\"the trail was taken out, and is kept as a piece\",\"headers\":{\"location\":{\"schema\":{\"type\":\"string\"}}}},\"403\":{\"description\":\"who asks is no steward\"},\"409\":{\"description\":\"as many pieces are kept as may be\"},\"default\":{\"description\":\"a problem\"}}}}"
+
+unfoldable pub piece_path : List ℕ
+piece_path =
+    codes ",\"/trail/{pieceId}\":{\"get\":{\"parameters\":[{\"name\":\"pieceId\",\"in\":\"path\",\"required\":true,\"schema\":{\"type\":\"integer\",\"minimum\":1}}],\"responses\":{\"200\":{\"description\":\"the records of the piece, a line each\",\"content\":{\"application/x-ndjson\":{}}},\"default\":{\"description\":\"a problem\"}}},\"delete\":{\"parameters\":[{\"name\":\"pieceId\",\"in\":\"path\",\"required\":true,\"schema\":{\"type\":\"integer\",\"minimum\":1}}],\"responses\":{\"204\":{\"description\":\"it is kept no longer\"},\"default\":{\"description\":\"a problem\"}}}}"
+
 abbrev pub call_paths : List ℕ
-call_paths = lists_path ++ explain_path ++ policy_path
+call_paths = lists_path ++ explain_path ++ policy_path ++ trail_path ++ piece_path

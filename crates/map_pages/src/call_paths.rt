@@ -1,7 +1,7 @@
-//! What the description for programs says of lists of changes and of the policy.
+//! What the description for programs says of lists of changes, of the policy and of the trail.
 
 ghost use Rattle.std.specs.Prelude.{◌≡◌, ◌++◌, OnOk};
-ghost use Rattle.map_pages.specs.CallPaths.{call_paths, explain_path, lists_path, policy_path};
+ghost use Rattle.map_pages.specs.CallPaths.{call_paths, explain_path, lists_path, piece_path, policy_path, trail_path};
 
 use map_answers::put;
 use memory::NoMemory;
@@ -37,11 +37,33 @@ fn put_policy_path<A: Allocator>(text: &mut Vec<u8, A>) -> Result<(), NoMemory>
     )
 }
 
-/// Appends the paths of lists of changes and of the policy.
+#[tactic(auto, unfolding(crate::specs::CallPaths::trail_path))]
+fn put_trail_path<A: Allocator>(text: &mut Vec<u8, A>) -> Result<(), NoMemory>
+    ensures { OnOk result (text.new.items ≡ text.old.items ++ trail_path) }
+{
+    put(
+        text,
+        b",\"/trail\":{\"post\":{\"responses\":{\"201\":{\"description\":\"the trail was taken out, and is kept as a piece\",\"headers\":{\"location\":{\"schema\":{\"type\":\"string\"}}}},\"403\":{\"description\":\"who asks is no steward\"},\"409\":{\"description\":\"as many pieces are kept as may be\"},\"default\":{\"description\":\"a problem\"}}}}",
+    )
+}
+
+#[tactic(auto, unfolding(crate::specs::CallPaths::piece_path))]
+fn put_piece_path<A: Allocator>(text: &mut Vec<u8, A>) -> Result<(), NoMemory>
+    ensures { OnOk result (text.new.items ≡ text.old.items ++ piece_path) }
+{
+    put(
+        text,
+        b",\"/trail/{pieceId}\":{\"get\":{\"parameters\":[{\"name\":\"pieceId\",\"in\":\"path\",\"required\":true,\"schema\":{\"type\":\"integer\",\"minimum\":1}}],\"responses\":{\"200\":{\"description\":\"the records of the piece, a line each\",\"content\":{\"application/x-ndjson\":{}}},\"default\":{\"description\":\"a problem\"}}},\"delete\":{\"parameters\":[{\"name\":\"pieceId\",\"in\":\"path\",\"required\":true,\"schema\":{\"type\":\"integer\",\"minimum\":1}}],\"responses\":{\"204\":{\"description\":\"it is kept no longer\"},\"default\":{\"description\":\"a problem\"}}}}",
+    )
+}
+
+/// Appends the paths of lists of changes, of the policy and of the trail.
 pub(crate) fn put_call_paths<A: Allocator>(text: &mut Vec<u8, A>) -> Result<(), NoMemory>
     ensures { OnOk result (text.new.items ≡ text.old.items ++ call_paths) }
 {
     put_lists_path(text)?;
     put_explain_path(text)?;
-    put_policy_path(text)
+    put_policy_path(text)?;
+    put_trail_path(text)?;
+    put_piece_path(text)
 }

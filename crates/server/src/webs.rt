@@ -8,6 +8,7 @@ use features::Name;
 use hall_workers::{Lounge, Reception};
 use listeners::{Stop, WebListener, WebPlace, WebStream, wake_web};
 use log::{Log, warn};
+use map_calls::Pieces;
 use map_metrics::Tally;
 use map_pages::Site;
 use map_sessions::Kept;
@@ -59,6 +60,7 @@ pub(crate) struct WebRoom<'a> {
     web: Option<&'a Web<'a>>,
     lounge: Lounge,
     kept: Mutex<Kept<Global>>,
+    pieces: Mutex<Pieces<Global>>,
     tally: Tally,
 }
 
@@ -72,6 +74,7 @@ impl<'a> WebRoom<'a> {
             web,
             lounge,
             kept: Mutex::new(Kept::new(heap)),
+            pieces: Mutex::new(Pieces::new(heap)),
             tally: Tally::new(),
         })
     }
@@ -87,6 +90,7 @@ impl<'a> WebRoom<'a> {
             metrics: web.metrics,
             tally: &self.tally,
             kept: &self.kept,
+            pieces: &self.pieces,
             random: web.random,
             patience: web.patience,
             lounge: &self.lounge,

@@ -10,7 +10,7 @@ use Rattle.hall_workers.proofs.turns.Turn.TheSendSync as turn
 use Rattle.crossbeam_channel.proofs.channel.Receiver.TheSendSync as receiver
 use Rattle.hall.proofs.CrossingLemmas.{hall_sync}
 use Rattle.std.proofs.sync.Mutex.TheSendSync as mutex
-use Rattle.hall_workers.proofs.visitors.Reception.TheSendSync as reception
+use Rattle.hall_workers.proofs.CrossingLemmas.{reception_sync}
 use Rattle.hall.proofs.CrossingLemmas.{seat_send}
 use Rattle.published_policies.proofs.CrossingLemmas.{view_send}
 use Rattle.server.proofs.ClosureLemmas.{lasting_send, over_eight_send, over_five_send}
@@ -31,7 +31,7 @@ spawn-requires-in-loop-view-send-F g c κs within =
     let sends = c.requires.hall in
     param_send _ _ (arg_send _ no _ (over_eight_send _ _ _ _ _ _ _ _ _ (shr_send _ _ _ c.requires.shares) std.send
     (shr_send _ _ _ (hall_sync L H g.L.Ledger g.L.ListName g.L.HallName sends.0 sends.1)) (shr_send _ _ _ (mutex.the_sync _ (std.Vec-send _ (seat_send L H g.L.Ledger g.L.ListName g.L.HallName sends.0 sends.1 _))))
-    (shr_send _ _ _ (reception.the_sync _))
+    (shr_send _ _ _ (reception_sync _))
     (shr_send _ _ _ turn.the_sync)
     (view_send L g.L.ListName sends.0)
     (lasting_send _)))
