@@ -1,4 +1,4 @@
-# The policy is asked and put in force by HTTP.
+# The policy is asked and put in force by HTTP, and the trail is taken out.
 source "$(dirname "$0")/parts.bash"
 web_configuration
 { read -r secret && read -r entry; } < <("$program" secret ines)
@@ -41,9 +41,27 @@ asked 200 '{"edition":2}' PUT /policy "$policy" "$ines" "$json; charset=utf-8"
 asked 200 '{"decision":"permit","rule":"everybody-does-all","edition":2}' GET "$(question reshape mast)" ""
 told=$(talk map.sock "HELLO guest $other" "EXPLAIN reshape roads mast POINT (10 20)" BYE)
 [[ $told == *"permit rule everybody-does-all edition 2"* ]] || fail "a session is told: $told"
-# The trail is not there: a steward rolls by session lines.
-asked 404 '"code":"U1"' GET /trail/1 "" "$ines"
-asked 404 '' POST /trail "" "$ines"
+# A steward takes the trail out, fetches it, and lets it go; nobody else does.
+asked 403 '"code":"X7"' POST /trail ""
+asked 403 '"code":"origin"' POST /trail "" "$ines" "Origin: https://elsewhere.example"
+asked 400 '"code":"U2"' POST "/trail?now" "" "$ines"
+asked 201 '{"piece":1,"records":' POST /trail "" "$ines"
+records=${body#*'"records":'}
+records=${records%\}*}
+[ "$records" = 1 ] || fail "$records records of one policy"
+asked 200 '"edition":2' GET /trail/1 "" "$ines"
+[ "$(grep -c '^{.*}$' <<< "$body")" = "$records" ] || fail "not $records lines: $body"
+asked 404 '"code":"absent"' GET /trail/1 ""
+asked 404 '"code":"absent"' DELETE /trail/1 ""
+asked 404 '"code":"absent"' GET /trail/2 "" "$ines"
+asked 405 '"code":"method"' GET /trail "" "$ines"
+for piece in 2 3 4; do
+    asked 201 "{\"piece\":$piece,\"records\":0}" POST /trail "" "$ines"
+done
+asked 409 '"code":"pieces"' POST /trail "" "$ines"
+asked 204 '' DELETE /trail/2 "" "$ines"
+asked 404 '"code":"absent"' DELETE /trail/2 "" "$ines"
+asked 201 '{"piece":5,"records":0}' POST /trail "" "$ines"
 exec {keeps}>&-
 ended one 0
 [ ! -s one.err ] || fail "it warns: $(head -n 3 one.err)"

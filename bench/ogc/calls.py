@@ -1,5 +1,5 @@
 #!/usr/bin/env python3
-"""Tries a server with lists of changes, questions to the policy, policies and metrics, by HTTP.
+"""Tries a server with lists of changes, questions to the policy, policies, the trail and metrics, by HTTP.
 
     calls.py BASE --as NAME:SECRET [--other NAME:SECRET] [--class NAME] [--denied NAME] [--policies FILE] [--metrics]
 
@@ -55,6 +55,14 @@ class Tests(changes.Tests):
     def _policy(self, document, fields=None):
         text = document if isinstance(document, bytes) else json.dumps(document).encode()
         return self._ask('/policy', 'PUT', {'content-type': JSON, **(fields or {})}, text)
+
+    def _roll(self, fields=None):
+        return self._ask('/trail', 'POST', fields)
+
+    def _let_all_go(self):
+        """Lets the pieces go that an earlier run may have left."""
+        for number in range(1, 100):
+            self._ask(f'/trail/{number}', 'DELETE')
 
     # ---- tests
 
@@ -165,6 +173,49 @@ class Tests(changes.Tests):
         self._refused(got, 405, 'method', 'GET')
         want(got.fields['allow'] == 'PUT', got.fields)
         want(self._explain().json()['edition'] == first + 2, 'more editions')
+
+    def rolls(self):
+        """POST /trail: 201 and where; GET: as many records as said, the last change among them; DELETE: 204, then 404"""
+        self._let_all_go()
+        number, tag = self._added()
+        got = self._roll()
+        want_status(got, 201, 'a roll')
+        said = got.json()
+        want(got.fields['location'].endswith(f'/trail/{said["piece"]}'), got.fields)
+        path = f'/trail/{said["piece"]}'
+        piece = self._ask(path)
+        want_status(piece, 200, path)
+        want(piece.media() == 'application/x-ndjson', piece.fields)
+        records = [json.loads(line) for line in piece.body.decode().splitlines()]
+        want(len(records) == said['records'] > 0, f'{len(records)} records, and {said}')
+        want(any(str(number) in json.dumps(record) for record in records), 'the change is not among them')
+        want(self._ask(path).body == piece.body, 'another piece at the second look')
+        if self.other:
+            self._refused(self._ask(path, fields=self.other), 404, 'absent', 'somebody else')
+            self._refused(self._ask(path, 'DELETE', self.other), 404, 'absent', 'somebody else')
+            self._refused(self._roll(self.other), 403, 'X7', 'no steward')
+        self._refused(self._roll({'origin': 'https://elsewhere.example'}), 403, 'origin', 'another origin')
+        got = self._ask('/trail')
+        self._refused(got, 405, 'method', 'GET')
+        want(got.fields['allow'] == 'POST', got.fields)
+        want_status(self._ask(path, 'DELETE'), 204, 'it is let go')
+        self._refused(self._ask(path), 404, 'absent', 'it is gone')
+        self._refused(self._ask(path, 'DELETE'), 404, 'absent', 'it is gone')
+        for path in ('/trail/0', '/trail/x', '/trail/01', '/trail/'):
+            want(self._ask(path).status == 404, path)
+
+    def keeps_four_pieces(self):
+        """POST /trail: a fifth piece gets 409 and takes nothing out, until one is let go"""
+        self._let_all_go()
+        pieces = [self._roll().json()['piece'] for _ in range(4)]
+        want(pieces == list(range(pieces[0], pieces[0] + 4)), pieces)
+        self._added()
+        self._refused(self._roll(), 409, 'pieces', 'a fifth')
+        want_status(self._ask(f'/trail/{pieces[1]}', 'DELETE'), 204, 'one is let go')
+        got = self._roll()
+        want_status(got, 201, 'a fifth, then')
+        want(got.json()['records'] > 0, 'the records are gone')
+        self._let_all_go()
 
     def is_watched(self):
         """GET /metrics: Prometheus' text for its subject alone; what was asked is counted"""
