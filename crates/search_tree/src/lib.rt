@@ -13,6 +13,7 @@ mod needs;
 mod nexts;
 mod opening;
 mod placing;
+mod reading;
 mod rooms;
 mod splitting;
 mod starting;

@@ -8,6 +8,8 @@ mod predicate_locks_tests;
 #[cfg(test)]
 mod search_tree_finding;
 #[cfg(test)]
+mod search_tree_reading;
+#[cfg(test)]
 mod search_tree_refusals;
 #[cfg(test)]
 mod search_tree_runs;
