@@ -1,0 +1,23 @@
+-- How a list grows: the rule of its book, and what is learned in the step that adds a state.
+use Rattle.std.specs.Prelude.{◌≡◌, ℕ, ◌==◌, true, List, [], ◌∷◌, ◌++◌, length}
+use Rattle.std.specs.Bool.{MatchBool}
+use Rattle.logbook.specs.Pages as pages
+use Rattle.logbook.specs.Pages.{Cell, Step, Book, Named}
+
+-- A book has two words. The first one is the length of the list, and the second stays 0.
+abbrev pub cells_of : {S : Type 0} → List S → List Cell
+cells_of list = (length list, true) ∷ (0, true) ∷ []
+
+-- what holds of a book at any time: its first word is the list's length
+pub record IsKept {S : Type 0} (cells : List Cell) (list : List S) : Type 0 where
+  pub words : cells ≡ cells_of list
+
+-- the word that is the length of a book's list
+abbrev pub length_word : Book → Named
+length_word book = record { tracked = true; key = 0; book = book }
+
+-- if the length was the expected one, the state was added to all that had been seen; otherwise the
+-- list, of the length that was found, was seen
+abbrev pub Adds : {S : Type 0} → Step S → pages.View S ℕ → ℕ → pages.View S ℕ → Type 0
+Adds step old found new =
+    MatchBool (found == step.old) (new.0 ≡ old.0 ++ step.ask ∷ []) (length new.0 ≡ found)
