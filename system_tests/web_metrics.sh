@@ -37,6 +37,9 @@ counts landmap_searches_total\ 2 "landmap_commits_total $applied" "landmap_denie
     'landmap_http_requests_total{status="403"} 1' 'landmap_http_requests_total{status="404"} 1' \
     "landmap_records_total $((2 + applied + denied + 1))" landmap_policies_total\ 0 landmap_commits_held_total\ 0 \
     'landmap_http_request_seconds_bucket{le="+Inf"} 5' landmap_http_request_seconds_count\ 5
+# Its memory is measured: some mebibytes.
+bytes=$(sed -n 's/^process_resident_memory_bytes //p' <<< "$body")
+((${bytes:-0} > 1048576 && bytes < 1073741824)) || fail "its memory is ${bytes:-not told}"
 # Each bucket has those below it, so the numbers rise.
 grep '_bucket' <<< "$body" | sed 's/.* //' | sort -nc || fail "the buckets do not rise: $body"
 # A reader that asks for the head alone gets no body.

@@ -238,6 +238,7 @@ class Tests(changes.Tests):
             want(after[name] - before[name] >= grown, f'{name}: {before[name]}, then {after[name]}')
         counts = [value for name, value in after.items() if name.startswith('landmap_http_request_seconds_bucket')]
         want(counts == sorted(counts) and counts[-1] == after['landmap_http_request_seconds_count'], counts)
+        want(2 ** 20 < after['process_resident_memory_bytes'] < 2 ** 40, after)
         if self.other:
             self._refused(self._ask('/metrics', fields=self.other), 403, 'metrics', 'somebody else')
 

@@ -2,9 +2,11 @@
 //! `program`; its server, in `server`; how it talks to one, in `client`.
 #![tactic(auto)]
 
+mod memory_watch;
 mod stores;
 mod web_plans;
 
+use crate::memory_watch::watch_memory;
 use crate::stores::{Alarm, StoreToOpen};
 use crate::web_plans::{WebFault, WebPlan};
 use byte_streams::{WriteFailed, flush, let_go, write_shown};
@@ -14,6 +16,7 @@ use configuration::Config;
 use credentials::Key;
 use features::Subjects;
 use log::{Log, warn};
+use map_metrics::Tally;
 use map_pages::Site;
 use memory::{NoMemory, another, buffered, copied, shared, text};
 use policy_text::{Document, print_document};
@@ -95,6 +98,8 @@ struct Plan {
     stop: Arc<Stop>,
     /// For the thread that waits for the end of standard input, if the command line asks for one.
     stopping: Option<Alarm>,
+    /// For the thread that measures the memory, if somebody may read what is counted.
+    watched: Option<Arc<Tally>>,
 }
 
 /// How a server at this path is told to accept nobody more.
@@ -183,6 +188,10 @@ fn planned(rt: &HostRuntime, server: WantedServer<'_>) -> Result<Plan, WebFault>
         Some(word) => Some(WebPlan::new(rt, word, http_workers, grid, web)?),
         None => None,
     };
+    let watched = match &web {
+        Some(plan) => plan.watched()?,
+        None => None,
+    };
     let stop = shared(heap, Stop::new())?;
     let stopping = if options.until_stdin_ends {
         Some(alarm(heap, &stop, options.socket)?)
@@ -203,6 +212,7 @@ fn planned(rt: &HostRuntime, server: WantedServer<'_>) -> Result<Plan, WebFault>
         web,
         stop,
         stopping,
+        watched,
     })
 }
 
@@ -346,6 +356,7 @@ where
         web,
         stop,
         stopping: _stopping,
+        watched: _watched,
     } = plan;
     let path = path.as_str();
     let keys = keys.as_slice();
@@ -414,6 +425,12 @@ fn main(rt: HostRuntime) -> ExitCode {
                     };
                     if thread::spawn(&rt, watches).is_err() {
                         warn!(&rt; target: "landmap", "the end of standard input is not seen");
+                    }
+                }
+                if let Some(tally) = plan.watched.take() {
+                    let measures = move || watch_memory(&rt, &tally);
+                    if thread::spawn(&rt, measures).is_err() {
+                        warn!(&rt; target: "landmap", "the memory is not measured");
                     }
                 }
                 serve(&rt, rt, rt.alloc(), plan, &mut errors)

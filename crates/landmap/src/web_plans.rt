@@ -2,15 +2,17 @@
 
 use command_line::{DEFAULT_HTTP_WORKERS, HttpWord};
 use grid::Grid;
+use map_metrics::Tally;
 use map_page::PAGE;
 use map_pages::Site;
-use memory::{NoMemory, NotStored, copied, text};
+use memory::{NoMemory, NotStored, another, copied, shared, text};
 use server::{Web, WebPlace};
 use std::alloc::Global;
 use std::hash::RandomState;
 use std::io::Write;
 use std::net::SocketAddr;
 use std::str;
+use std::sync::Arc;
 
 /// Within how many milliseconds a client sends a whole request, and takes some bytes of an answer.
 const PATIENCE: u64 = 30_000;
@@ -80,6 +82,7 @@ pub(crate) struct WebPlan {
     said: configuration::Web<Global>,
     random: RandomState,
     workers: usize,
+    tally: Arc<Tally>,
 }
 
 /// `http://` and an address.
@@ -140,7 +143,16 @@ impl WebPlan {
             said,
             random,
             workers: usize::from(workers.unwrap_or(DEFAULT_HTTP_WORKERS)),
+            tally: shared(heap, Tally::new())?,
         })
+    }
+
+    /// What is counted, if somebody may read it.
+    pub(crate) fn watched(&self) -> Result<Option<Arc<Tally>>, NoMemory> {
+        if self.said.metrics.is_none() {
+            return Ok(None);
+        }
+        Ok(Some(another(&self.tally)?))
     }
 
     /// Where it is answered, as it is told.
@@ -175,6 +187,7 @@ impl WebPlan {
             keys: self.said.keys.as_slice(),
             trusted_field: self.said.trusted_field,
             metrics: self.said.metrics,
+            tally: &self.tally,
             random: self.random,
             workers: self.workers,
             patience: PATIENCE,

@@ -1,5 +1,5 @@
 -- Families of one number.
-use Rattle.std.specs.Prelude.{ℕ, List, ◌++◌, codes, decimal}
+use Rattle.std.specs.Prelude.{ℕ, List, [], ◌++◌, codes, decimal, nat_eq, if◌then◌else◌}
 
 -- what stands before the number, the number, and the end of the line
 abbrev pub number_text : List ℕ → ℕ → List ℕ
@@ -23,6 +23,10 @@ policies_text count = number_text (codes "# HELP landmap_policies_total Policies
 
 unfoldable pub records_text : ℕ → List ℕ
 records_text count = number_text (codes "# HELP landmap_records_total Records that were added to the trail.\n# TYPE landmap_records_total counter\nlandmap_records_total ") count
+
+-- how many bytes of memory the server has, where that was measured
+unfoldable pub memory_text : ℕ → List ℕ
+memory_text bytes = if nat_eq bytes 0 then [] else number_text (codes "# HELP process_resident_memory_bytes Memory of the server that is in RAM.\n# TYPE process_resident_memory_bytes gauge\nprocess_resident_memory_bytes ") bytes
 
 -- which server it is
 unfoldable pub info_text : List ℕ

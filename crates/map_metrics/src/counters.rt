@@ -1,7 +1,7 @@
 //! What is counted by one number.
 
 ghost use Rattle.std.specs.Prelude.{◌≡◌, ◌++◌, OnOk};
-ghost use Rattle.map_metrics.specs.Counters.{commits_text, denied_text, held_text, policies_text, records_text, searches_text, info_text, number_text};
+ghost use Rattle.map_metrics.specs.Counters.{commits_text, denied_text, held_text, info_text, memory_text, number_text, policies_text, records_text, searches_text};
 
 use map_answers::{put, put_number};
 use memory::NoMemory;
@@ -83,6 +83,21 @@ pub(crate) fn put_records<A: Allocator>(text: &mut Vec<u8, A>, count: u64) -> Re
         text,
         b"# HELP landmap_records_total Records that were added to the trail.\n# TYPE landmap_records_total counter\nlandmap_records_total ",
         count,
+    )
+}
+
+/// Appends how many bytes of memory the server has; nothing for 0.
+#[tactic(auto, unfolding(crate::specs::Counters::memory_text))]
+pub(crate) fn put_memory<A: Allocator>(text: &mut Vec<u8, A>, bytes: u64) -> Result<(), NoMemory>
+    ensures { OnOk result (text.new.items ≡ text.old.items ++ memory_text bytes) }
+{
+    if bytes == 0 {
+        return Ok(());
+    }
+    put_number_text(
+        text,
+        b"# HELP process_resident_memory_bytes Memory of the server that is in RAM.\n# TYPE process_resident_memory_bytes gauge\nprocess_resident_memory_bytes ",
+        bytes,
     )
 }
 

@@ -4,7 +4,8 @@ ghost use Rattle.std.specs.Prelude.{◌≡◌, ◌++◌, IfOk, OnOk};
 ghost use Rattle.map_metrics.specs.Metrics.{counters_text, metrics_text};
 
 use crate::counters::{
-    put_commits, put_denied, put_held, put_info, put_policies, put_records, put_searches,
+    put_commits, put_denied, put_held, put_info, put_memory, put_policies, put_records,
+    put_searches,
 };
 use crate::readings::Readings;
 use crate::requests::put_requests;
@@ -31,6 +32,7 @@ fn put_metrics<A: Allocator>(text: &mut Vec<u8, A>, readings: &Readings) -> Resu
     put_requests(text, &readings.responses)?;
     put_times(text, &readings.times, readings.micros)?;
     put_counters(text, readings)?;
+    put_memory(text, readings.memory)?;
     put_info(text)
 }
 

@@ -25,4 +25,6 @@ pub struct Readings {
     pub policies: u64,
     /// Records that were added to the trail.
     pub records: u64,
+    /// How many bytes of its memory were in RAM when that was measured last; 0 before.
+    pub memory: u64,
 }

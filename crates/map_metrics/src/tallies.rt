@@ -37,6 +37,7 @@ pub struct Tally {
     denied: AtomicU64,
     policies: AtomicU64,
     records: AtomicU64,
+    memory: AtomicU64,
 }
 
 /// Adds one.
@@ -62,6 +63,7 @@ impl Tally {
             denied: AtomicU64::new(0),
             policies: AtomicU64::new(0),
             records: AtomicU64::new(0),
+            memory: AtomicU64::new(0),
         }
     }
 
@@ -89,6 +91,11 @@ impl Tally {
         count(&self.records);
     }
 
+    /// Notes how many bytes of the server's memory are in RAM.
+    pub fn note_memory(&self, bytes: u64) {
+        self.memory.store(bytes, Ordering::Relaxed);
+    }
+
     /// What was counted up to now.
     pub fn readings(&self) -> Readings {
         Readings {
@@ -101,6 +108,7 @@ impl Tally {
             denied: read(&self.denied),
             policies: read(&self.policies),
             records: read(&self.records),
+            memory: read(&self.memory),
         }
     }
 }

@@ -20,10 +20,11 @@ const READ: Readings = Readings {
     denied: 13,
     policies: 14,
     records: 15,
+    memory: 16_384,
 };
 
 /// Lines of their text, in this order.
-const LINES: [&str; 20] = [
+const LINES: [&str; 22] = [
     "# HELP landmap_http_requests_total ",
     "\n# TYPE landmap_http_requests_total counter\n",
     "landmap_http_requests_total{status=\"200\"} 2\n",
@@ -42,6 +43,8 @@ const LINES: [&str; 20] = [
     "\nlandmap_denied_total 13\n",
     "\nlandmap_policies_total 14\n",
     "\nlandmap_records_total 15\n",
+    "\n# TYPE process_resident_memory_bytes gauge\n",
+    "process_resident_memory_bytes 16384\n",
     "\n# TYPE landmap_info gauge\n",
     "landmap_info{version=\"0.1.0\"} 1\n",
 ];
@@ -99,7 +102,11 @@ fn counts_are_read(rt: HostRuntime) {
     for event in events {
         tally.count_event(event);
     }
+    assert_eq!(rt; tally.readings().memory, 0);
+    tally.note_memory(8_192);
+    tally.note_memory(4_096);
     let read = tally.readings();
+    assert_eq!(rt; read.memory, 4_096);
     assert_eq!(rt; read.responses[0], 2);
     assert_eq!(rt; read.responses[7], 1);
     assert_eq!(rt; read.times[0], 2);

@@ -44,6 +44,8 @@ pub struct Web<'a> {
     pub trusted_field: bool,
     /// The subject that may read what is counted, if there is one.
     pub metrics: Option<Name>,
+    /// What is counted.
+    pub tally: &'a Tally,
     /// Drawn anew for each server.
     pub random: RandomState,
     /// How many connections are answered side by side, from 1 to `WEB_WORKER_LIMIT`; any other
@@ -61,7 +63,6 @@ pub(crate) struct WebRoom<'a> {
     lounge: Lounge,
     kept: Mutex<Kept<Global>>,
     pieces: Mutex<Pieces<Global>>,
-    tally: Tally,
 }
 
 impl<'a> WebRoom<'a> {
@@ -75,7 +76,6 @@ impl<'a> WebRoom<'a> {
             lounge,
             kept: Mutex::new(Kept::new(heap)),
             pieces: Mutex::new(Pieces::new(heap)),
-            tally: Tally::new(),
         })
     }
 
@@ -88,7 +88,7 @@ impl<'a> WebRoom<'a> {
             keys: web.keys,
             trusted_field: web.trusted_field,
             metrics: web.metrics,
-            tally: &self.tally,
+            tally: web.tally,
             kept: &self.kept,
             pieces: &self.pieces,
             random: web.random,

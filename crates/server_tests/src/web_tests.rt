@@ -4,6 +4,7 @@ use crate::servers::serving;
 use features::Name;
 use grid::{Between, Grid};
 use log::Log;
+use map_metrics::Tally;
 use map_pages::Site;
 use server::{Connections, ServerFault, SocketOptions, Stop, Web, WebPlace, serve_socket};
 use std::alloc::Global;
@@ -45,6 +46,7 @@ fn with_web<'a>(stop: &'a Stop, web: &'a Web<'a>) -> SocketOptions<'a> {
 fn web<'a>(
     place: WebPlace<'a>,
     site: &'a Site<'a>,
+    tally: &'a Tally,
     random: RandomState,
     workers: usize,
 ) -> Web<'a> {
@@ -55,6 +57,7 @@ fn web<'a>(
         keys: &[],
         trusted_field: false,
         metrics: None,
+        tally,
         random,
         workers,
         patience: 30_000,
@@ -150,7 +153,8 @@ where
         classes: &classes,
         map: b"<!DOCTYPE html>",
     };
-    let web = web(WebPlace::Path(web_path), &site, keys, workers);
+    let tally = Tally::new();
+    let web = web(WebPlace::Path(web_path), &site, &tally, keys, workers);
     let serving = serving(rt, heap);
     let stop = Stop::new();
     let (served, ()) = thread::join(
@@ -197,7 +201,8 @@ fn no_place_for_http(rt: HostRuntime) -> Result<(), Fail> {
         map: b"",
     };
     let place = WebPlace::Path("no_such_folder/web.sock");
-    let web = web(place, &site, RandomState::new(&rt)?, 1);
+    let tally = Tally::new();
+    let web = web(place, &site, &tally, RandomState::new(&rt)?, 1);
     let stop = Stop::new();
     let served = serve_socket(
         &rt,
