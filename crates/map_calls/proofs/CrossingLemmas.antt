@@ -16,7 +16,7 @@ piece_send : IsSend (Piece.the_row heap ghosts)
 piece_send =
     let rolled = std.Arc-send _ (rolled_send heap ghosts std.send std.sync std.frees) (rolled_sync heap ghosts std.send std.sync std.frees) in
     recorded_send _ _ _ (Piece.the_type heap ghosts).to_one (struct_send (shape (Piece.the_type heap ghosts))
-    (plain_send _ _ _ _ _ & name.the_field_send & rolled & tt))
+    (plain_send _ _ _ _ _ & name.the_send & rolled & tt))
 
 pieces_send : IsSend (Pieces.the_row heap ghosts)
 pieces_send =
