@@ -6,7 +6,7 @@ ghost use Rattle.memory.specs.NoMemory.{out_of_memory};
 ghost use Rattle.audit_trail.specs.Records.{record_at};
 
 use crate::records::Record;
-use memory::{GrowVec, NoMemory, shared};
+use memory::{GrowVec, NoMemory, NotStored, shared};
 use std::alloc::Allocator;
 use std::fmt;
 use std::marker::Model;
@@ -178,6 +178,18 @@ impl<A: Allocator + Copy> Trail<A> {
         ensures records { self.new.records ≡ self.old.records ++ arc_value entry ∷ [] }
     {
         self.records.push_reserved(entry);
+    }
+
+    /// Puts a record at the end that has an owner already. Out of memory is the only error: it
+    /// returns the record, and the trail's records are unchanged.
+    pub fn add(&mut self, entry: Arc<Record<A>, A>) -> Result<(), NotStored<Arc<Record<A>, A>>>
+        requires { length self.old.records < RECORD_LIMIT }
+        ensures first { self.new.first ≡ self.old.first }
+        ensures ok { OnOk result (self.new.records ≡ self.old.records ++ arc_value entry ∷ []) }
+        ensures err { OnErr result (self.new.records ≡ self.old.records) }
+        ensures entry_returned { IfErr result (λ failed. failed.value ≡ entry) }
+    {
+        self.records.store(entry)
     }
 
     /// Adds a record at the end and returns its number. On an error it returns the record, and the

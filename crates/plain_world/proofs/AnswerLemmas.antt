@@ -1,16 +1,17 @@
 -- Where an answer, a governed edition and a piece come from.
 use Rattle.std.proofs.Common.{◌≡◌, ℕ, IsTrue, List, refl, sym, ap, subst, ◌∙◌}
+use Rattle.plane.specs.declared.point.Point.{Point}
 use Rattle.features.specs.declared.actors.Subject.{Subject}
 use Rattle.audit_trail.specs.Legal.{IsSeated}
 use Rattle.policy_documents.specs.Documents.{DocumentData}
-use Rattle.plain_world.specs.Admitting.{may_finish, may_govern, may_roll}
+use Rattle.plain_world.specs.Admitting.{may_finish, may_answer, may_govern, may_roll}
 use Rattle.plain_world.specs.Answers.{AnswerData}
-use Rattle.plain_world.specs.Events.{Event, Finish, Govern, Roll, Reply, Number, Rows, TakenOut, Happens, Run}
-use Rattle.plain_world.specs.Laws.{IsExact, Accounts, IsStewards, LeadsOn}
+use Rattle.plain_world.specs.Events.{Event, Finish, Answer, Govern, Roll, Reply, Number, Rows, TakenOut, Happens, Run}
+use Rattle.plain_world.specs.Laws.{IsExact, IsAnswerTo, Accounts, IsStewards, LeadsOn}
 use Rattle.plain_world.specs.Rolls.{RolledData}
 use Rattle.plain_world.specs.States.{WorldData, IsSoundWorld}
 use Rattle.plain_world.proofs.AdmittedLemmas.{admitted, finisher, governor, roller}
-use Rattle.plain_world.proofs.RunLemmas.{sound_run}
+use Rattle.plain_world.proofs.RunLemmas.{answer_seated, sound_run}
 
 -- after any run the trail accounts for the state
 pub accounts : (old mid : WorldData) (before : List (Event × Reply)) → IsSoundWorld old → Run old before mid → Accounts mid
@@ -40,6 +41,12 @@ answer_exact seat number mid new answer happens =
       decider = refl;
       listed = d.2.1;
     })
+
+pub whole_answer_exact : (seat : ℕ) (window : List Point) (mid new : WorldData) (answer : AnswerData) → Happens (Answer seat window) mid new (Rows answer) → IsAnswerTo seat window mid answer
+whole_answer_exact seat window mid new answer happens =
+    let d = admitted (may_answer seat mid) mid new (Rows answer) _ refl happens in
+    subst (λ (a : AnswerData). IsAnswerTo seat window mid a) (sym (rows_same answer _ d.2.2))
+    (record { seated = answer_seated seat mid d.0 d.1; sought = refl; decider = refl; listed = d.2.1 })
 
 pub policy_stewards : (seat : ℕ) (document : DocumentData) (edition : ℕ) (mid new : WorldData) → Happens (Govern seat document) mid new (Number edition) → IsStewards seat document edition mid new
 policy_stewards seat document edition mid new happens =

@@ -19,8 +19,8 @@ use Rattle.plain_world.specs.declared.settings.TheConstants.{SEAT_LIMIT}
 use Rattle.plain_world.specs.declared.advances.Advance.TheVariants as advances
 use Rattle.tree_answers.specs.declared.answers.Step.TheVariants as steps
 use Rattle.tree_answers.specs.declared.answers.Visit.TheVariants as visits
-use Rattle.plain_world.specs.Admitting.{LAST, search_with, subject_at, placed, own_transaction, may_add, may_sit, may_open, may_go_on, may_finish, may_begin, may_step, may_stage, may_commit, may_govern, may_roll}
-use Rattle.plain_world.specs.Events.{Event, TakeSeat, OpenSearch, VisitNext, Finish, DropSearch, Begin, Stage, AdvanceWalk, Commit, Abort, Govern, Tend, Roll, Reply, Number, Done, Visited, Advanced, Tended, Ended, Failed, is_memory, Happens, Sees, Walks, Visits, Advances, Applies, CommitsAs, Tends, recorded, with_ready, without_transaction}
+use Rattle.plain_world.specs.Admitting.{LAST, search_with, subject_at, placed, own_transaction, may_add, may_sit, may_open, may_go_on, may_finish, may_answer, may_begin, may_step, may_stage, may_commit, may_govern, may_roll}
+use Rattle.plain_world.specs.Events.{Event, TakeSeat, OpenSearch, VisitNext, Finish, DropSearch, Answer, Begin, Stage, AdvanceWalk, Commit, Abort, Govern, Tend, Roll, Reply, Number, Done, Visited, Advanced, Tended, Ended, Failed, is_memory, Happens, Sees, Walks, Visits, Advances, Applies, CommitsAs, Tends, recorded, with_ready, without_transaction}
 use Rattle.plain_world.specs.Laws.{IsAsked, IsAskedSearch, IsAskedTransaction}
 use Rattle.plain_world.specs.Staging.{TransactionData, transaction_with, staged_in, with_step, staged, one_placed, ended, next_placement}
 use Rattle.plain_world.specs.States.{WorldData, most_features}
@@ -320,6 +320,10 @@ is_asked (Finish seat number) old new reply happens =
 is_asked (DropSearch seat number) old new reply happens =
     by_if (may_go_on seat number old) old new reply _ (λ r. IsAsked (DropSearch seat number) old new r) (λ fault may same. asked_same (DropSearch seat number) old (Failed fault) new same)
     (λ s may d. asked_to (DropSearch seat number) old reply new _ d.0 (searches_end (DropSearch seat number) old reply number) (transactions_stay (DropSearch seat number) old reply) refl) happens
+is_asked (Answer seat window) old new reply happens =
+    by_if (may_answer seat old) old new reply _ (λ r. IsAsked (Answer seat window) old new r) (λ fault may same. asked_same (Answer seat window) old (Failed fault) new same)
+    (λ subject may d. asked_unless (Answer seat window) old new reply _
+    (λ d. asked_to (Answer seat window) old reply new _ d.3 (searches_stay (Answer seat window) old reply) (transactions_stay (Answer seat window) old reply) refl) d) happens
 is_asked (Begin seat) old new reply happens =
     by_if (may_begin seat old) old new reply _ (λ r. IsAsked (Begin seat) old new r) (λ fault may same. asked_same (Begin seat) old (Failed fault) new same)
     (λ number may d. asked_unless (Begin seat) old new reply _

@@ -83,3 +83,16 @@ module _ (A : RattleType) (g : Ghosts A.Denot) (s : IsSend A) (y : IsSync A) (f 
       let given = starts.the_field_send & limits.the_field_send & seats & standing in
       -- by its fields, in their order
       model_send (world_inside.the_type A g) (s & subjects.the_send & shared_decider_send & given)
+
+  pub plain_world_sync : IsSync (PlainWorld.the_row A g)
+  plain_world_sync =
+      let seats = vec.the_sync _ A g subject.the_sync y in
+      let base = base_sync A g y in
+      let trail = trail_sync A g s y f in
+      let features = store.the_sync A g y in
+      let running = searches.the_sync A g y in
+      let open_ones = vec.the_sync _ A g (transaction.the_sync A g y) y in
+      let under_way = running & u64_sync & open_ones & u64_sync & tt in
+      let standing = base & trail & features & u64_sync & shared_decider_sync & under_way in
+      let given = starts.the_field_sync & limits.the_field_sync & seats & standing in
+      model_sync (world_inside.the_type A g) (y & subjects.the_sync & shared_decider_sync & given)

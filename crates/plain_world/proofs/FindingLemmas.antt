@@ -14,7 +14,7 @@ use Rattle.feature_store.specs.Places.{IsLess, AreRising}
 use Rattle.features.specs.Rows.{feature_with, IsBelowAll, IsSortedById}
 use Rattle.policy_documents.specs.Documents.{DocumentData}
 use Rattle.judging.specs.Listing.{IsListed}
-use Rattle.plain_world.specs.Finding.{NamesAll, FindsAll}
+use Rattle.plain_world.specs.Finding.{NamesAll}
 
 -- Ids that rise, by recursion.
 
@@ -101,11 +101,11 @@ module _ (window : List Point) where
   named_rest id ids (feature ∷ features) below named = (λ met. in_later id feature.id ids below.0 (named.0 met), named_rest id ids features below.1 named.1)
 
   -- a list with at least the found ids names all features that the found ids name
-  pub names_kept : (features : List Feature) (found : List (ℕ × List Point)) (ids : List ℕ) → ((id : ℕ) → Contains (map (λ pair. pair.0) found) id → Contains ids id)
-      → FindsAll features window found → NamesAll features window ids
-  names_kept features found ids kept finds =
-      All-weaker (λ (f : Feature). Meet f.shape window → Contains (map (λ pair. pair.0) found) f.id) (λ (f : Feature). Meet f.shape window → Contains ids f.id)
-      (λ f named met. kept f.id (named met)) features finds
+  pub names_kept : (features : List Feature) (found ids : List ℕ) → ((id : ℕ) → Contains found id → Contains ids id)
+      → NamesAll features window found → NamesAll features window ids
+  names_kept features found ids kept names =
+      All-weaker (λ (f : Feature). Meet f.shape window → Contains found f.id) (λ (f : Feature). Meet f.shape window → Contains ids f.id)
+      (λ f named met. kept f.id (named met)) features names
 
   module _ (document : DocumentData) (subject : Subject) where
     abbrev Lists : List Feature → List Feature → Type 0

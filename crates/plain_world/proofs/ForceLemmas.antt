@@ -7,7 +7,7 @@ use Rattle.audit_trail.specs.Legal.{after_deed}
 use Rattle.judging.specs.States.{PlainState}
 use Rattle.plain_world.specs.declared.outcomes.Outcome.{Outcome}
 use Rattle.plain_world.specs.declared.outcomes.Outcome.TheVariants as outcomes
-use Rattle.plain_world.specs.Events.{Event, Finish, Commit, Govern, Roll, Reply, Number, Rows, Ended, TakenOut, Run}
+use Rattle.plain_world.specs.Events.{Event, Finish, Answer, Commit, Govern, Roll, Reply, Number, Rows, Ended, TakenOut, Run}
 use Rattle.plain_world.specs.Laws.{AddsAlone, deed_of, in_force}
 use Rattle.plain_world.specs.States.{WorldData}
 use Rattle.plain_world.proofs.RecordLemmas.{adds_alone}
@@ -19,6 +19,7 @@ outcome_keeps subject changes (outcomes.Refused refusal denial) state = refl
 
 forced_by : (event : Event) (reply : Reply) (old new : WorldData) → AddsAlone event old new reply → new.state.decider ≡ in_force old.state.decider ((event, reply) ∷ [])
 forced_by (Finish seat search) (Rows answer) old new h = ap (λ (s : PlainState). s.decider) h.1
+forced_by (Answer seat window) (Rows answer) old new h = ap (λ (s : PlainState). s.decider) h.1
 forced_by (Commit seat number) (Ended outcome) old new h = ap (λ (s : PlainState). s.decider) h.2.1 ∙ outcome_keeps h.0 _ outcome old.state
 forced_by (Govern seat document) (Number edition) old new h = ap (λ (s : PlainState). s.decider) h.1
 forced_by (Roll seat) (TakenOut piece) old new h = ap (λ (s : PlainState). s.decider) h.1

@@ -18,8 +18,8 @@ use Rattle.plain_world.specs.declared.open_searches.Search.{Search}
 use Rattle.plain_world.specs.declared.advances.Advance.TheVariants as advances
 use Rattle.tree_answers.specs.declared.answers.Step.TheVariants as steps
 use Rattle.tree_answers.specs.declared.answers.Visit.TheVariants as visits
-use Rattle.plain_world.specs.Admitting.{LAST, may_sit, may_open, may_go_on, may_finish, may_begin, may_step, may_stage, may_commit, may_govern, may_roll}
-use Rattle.plain_world.specs.Events.{Event, TakeSeat, OpenSearch, VisitNext, Finish, DropSearch, Begin, Stage, AdvanceWalk, Commit, Abort, Govern, Tend, Roll, Reply, Visited, Advanced, Tended, Ended, TakenOut, Failed, If, UnlessMemory, is_memory, Happens, Run, Sees, Walks, Visits, Advances, Applies, CommitsAs, Tends, recorded, without_transaction}
+use Rattle.plain_world.specs.Admitting.{LAST, may_sit, may_open, may_go_on, may_finish, may_answer, may_begin, may_step, may_stage, may_commit, may_govern, may_roll}
+use Rattle.plain_world.specs.Events.{Event, TakeSeat, OpenSearch, VisitNext, Finish, DropSearch, Answer, Begin, Stage, AdvanceWalk, Commit, Abort, Govern, Tend, Roll, Reply, Visited, Advanced, Tended, Ended, TakenOut, Failed, If, UnlessMemory, is_memory, Happens, Run, Sees, Walks, Visits, Advances, Applies, CommitsAs, Tends, recorded, without_transaction}
 use Rattle.plain_world.specs.Laws.{records_out}
 use Rattle.plain_world.specs.Staging.{TransactionData, next_placement, staged_in}
 use Rattle.plain_world.specs.States.{WorldData, IsSoundWorld, most_features}
@@ -117,6 +117,8 @@ moves (Finish seat number) old new reply happens =
     moves_if (may_finish seat number old) old new reply _ (λ who d. moves_unless old new reply _ (λ d. moves_to old new reply _ d.2 (stays_by old new _ d.3 refl refl)) d) happens
 moves (DropSearch seat number) old new reply happens =
     moves_if (may_go_on seat number old) old new reply _ (λ s d. moves_to old new reply _ d.1 (stays_by old new _ d.0 refl refl)) happens
+moves (Answer seat window) old new reply happens =
+    moves_if (may_answer seat old) old new reply _ (λ subject d. moves_unless old new reply _ (λ d. moves_to old new reply _ d.2 (stays_by old new _ d.3 refl refl)) d) happens
 moves (Begin seat) old new reply happens =
     moves_if (may_begin seat old) old new reply _ (λ x d. moves_unless old new reply _ (λ d. moves_to old new reply _ d.1 (stays_by old new _ d.0 refl refl)) d) happens
 moves (Stage seat number change) old new reply happens =

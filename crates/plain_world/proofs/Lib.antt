@@ -1,6 +1,7 @@
 pub mod JudgedLemmas
 pub mod AdmittedLemmas
 pub mod AnswerLemmas
+pub mod AnsweringLemmas
 pub mod OutcomeLemmas
 pub mod RecordLemmas
 pub mod RefusalLemmas

@@ -27,14 +27,14 @@ use Rattle.plain_world.specs.declared.settings.TheConstants.{SEAT_LIMIT, CHANGE_
 use Rattle.plain_world.specs.declared.advances.Advance.TheVariants as advances
 use Rattle.tree_answers.specs.declared.answers.Step.TheVariants as steps
 use Rattle.tree_answers.specs.declared.answers.Visit.TheVariants as visits
-use Rattle.plain_world.specs.Admitting.{LAST, subject_at, own_transaction, may_add, may_sit, may_open, may_go_on, may_finish, may_begin, may_step, may_stage, may_commit, may_govern, may_roll}
+use Rattle.plain_world.specs.Admitting.{LAST, subject_at, own_transaction, may_add, may_sit, may_open, may_go_on, may_finish, may_answer, may_begin, may_step, may_stage, may_commit, may_govern, may_roll}
 use Rattle.plain_world.specs.Answers.{AnswerData}
-use Rattle.plain_world.specs.Events.{Event, TakeSeat, OpenSearch, VisitNext, Finish, DropSearch, Begin, Stage, AdvanceWalk, Commit, Abort, Govern, Tend, Roll, Reply, Visited, Advanced, Tended, Rows, Ended, Failed, is_memory, Happens, Run, Sees, Walks, Visits, Advances, Applies, CommitsAs, Tends, recorded, without_transaction}
+use Rattle.plain_world.specs.Events.{Event, TakeSeat, OpenSearch, VisitNext, Finish, DropSearch, Answer, Begin, Stage, AdvanceWalk, Commit, Abort, Govern, Tend, Roll, Reply, Visited, Advanced, Tended, Rows, Ended, Failed, is_memory, Happens, Run, Sees, Walks, Visits, Advances, Applies, CommitsAs, Tends, recorded, without_transaction}
 use Rattle.plain_world.specs.Laws.{AreApart, IsOrdered}
 use Rattle.plain_world.specs.Staging.{TransactionData, transaction_with, staged_in, with_step, staged, one_placed, ended, names, next_placement}
 use Rattle.judging.specs.States.{PlainState}
 use Rattle.plain_world.specs.States.{WorldData, IsSoundWorld, opened, opened_from, most_features}
-use Rattle.plain_world.proofs.AnswerLemmas.{answer_exact}
+use Rattle.plain_world.proofs.AnswerLemmas.{answer_exact, whole_answer_exact}
 use Rattle.plain_world.proofs.AdmittedLemmas.{by_if, by_unless, own_open}
 use Rattle.plain_world.proofs.RunLemmas.{and_then_ok}
 use Rattle.plain_world.proofs.TransactionLemmas.{unnamed}
@@ -190,6 +190,9 @@ ordered_event (Finish seat number) old new reply happens h =
     (λ who may d. by_unless old new reply _ (λ _. IsOrdered new) (λ fault want same. ordered_same old new same h) (λ d. ordered_by new _ d.3 h.sorted h.apart) d) happens
 ordered_event (DropSearch seat number) old new reply happens h =
     by_if (may_go_on seat number old) old new reply _ (λ _. IsOrdered new) (λ fault may same. ordered_same old new same h) (λ s may d. ordered_by new _ d.0 h.sorted h.apart) happens
+ordered_event (Answer seat window) old new reply happens h =
+    by_if (may_answer seat old) old new reply _ (λ _. IsOrdered new) (λ fault may same. ordered_same old new same h)
+    (λ subject may d. by_unless old new reply _ (λ _. IsOrdered new) (λ fault want same. ordered_same old new same h) (λ d. ordered_by new _ d.3 h.sorted h.apart) d) happens
 ordered_event (Begin seat) old new reply happens h =
     by_if (may_begin seat old) old new reply _ (λ _. IsOrdered new) (λ fault may same. ordered_same old new same h)
     (λ number may d. by_unless old new reply _ (λ _. IsOrdered new) (λ fault want same. ordered_same old new same h)
@@ -240,4 +243,9 @@ opened_from_ordered subjects base starts limits sorted = record { sorted = sorte
 pub answer_rising : (seat number : ℕ) (mid new : WorldData) (answer : AnswerData) → IsOrdered mid → Happens (Finish seat number) mid new (Rows answer) → IsSortedById answer.rows
 answer_rising seat number mid new answer h happens =
     let exact = answer_exact seat number mid new answer happens in
+    listed_sorted mid.state.decider.document answer.subject answer.window mid.state.features answer.rows exact.listed h.sorted
+
+pub whole_answer_rising : (seat : ℕ) (window : List Point) (mid new : WorldData) (answer : AnswerData) → IsOrdered mid → Happens (Answer seat window) mid new (Rows answer) → IsSortedById answer.rows
+whole_answer_rising seat window mid new answer h happens =
+    let exact = whole_answer_exact seat window mid new answer happens in
     listed_sorted mid.state.decider.document answer.subject answer.window mid.state.features answer.rows exact.listed h.sorted

@@ -16,8 +16,8 @@ use Rattle.plain_world.specs.declared.open_searches.Search.{Search}
 use Rattle.plain_world.specs.declared.advances.Advance.TheVariants as advances
 use Rattle.tree_answers.specs.declared.answers.Step.TheVariants as steps
 use Rattle.tree_answers.specs.declared.answers.Visit.TheVariants as visits
-use Rattle.plain_world.specs.Admitting.{LAST, may_sit, may_open, may_go_on, may_finish, may_begin, may_step, may_stage, may_commit, may_govern, may_roll}
-use Rattle.plain_world.specs.Events.{Event, TakeSeat, OpenSearch, VisitNext, Finish, DropSearch, Begin, Stage, AdvanceWalk, Commit, Abort, Govern, Tend, Roll, Reply, Visited, Advanced, Tended, Ended, Failed, is_memory, Happens, Sees, Walks, Visits, Advances, Finishes, Applies, CommitsAs, Governs, Rolls, Tends, recorded, without_transaction}
+use Rattle.plain_world.specs.Admitting.{LAST, may_sit, may_open, may_go_on, may_finish, may_answer, may_begin, may_step, may_stage, may_commit, may_govern, may_roll}
+use Rattle.plain_world.specs.Events.{Event, TakeSeat, OpenSearch, VisitNext, Finish, DropSearch, Answer, Begin, Stage, AdvanceWalk, Commit, Abort, Govern, Tend, Roll, Reply, Visited, Advanced, Tended, Ended, Failed, is_memory, Happens, Sees, Walks, Visits, Advances, Finishes, Answers, Applies, CommitsAs, Governs, Rolls, Tends, recorded, without_transaction}
 use Rattle.plain_world.specs.Laws.{StandsAs, HasOneMore, AddsAlone}
 use Rattle.plain_world.specs.Staging.{TransactionData, next_placement, staged_in}
 use Rattle.plain_world.specs.States.{WorldData, most_features}
@@ -75,6 +75,10 @@ adds_finishes : (seat number : ℕ) (who : Subject × Search) (old new : WorldDa
 adds_finishes seat number who old new reply d =
     subst (λ (r : Reply). AddsAlone (Finish seat number) old new r) (sym d.2) (one_more_by seat _ old new _ d.3 (refl, refl, refl, refl))
 
+adds_answers : (seat : ℕ) (subject : Subject) (window : List Point) (old new : WorldData) (reply : Reply) → Answers seat subject window old new reply → AddsAlone (Answer seat window) old new reply
+adds_answers seat subject window old new reply d =
+    subst (λ (r : Reply). AddsAlone (Answer seat window) old new r) (sym d.2) (one_more_by seat _ old new _ d.3 (refl, refl, refl, refl))
+
 adds_applies : (seat number : ℕ) (subject : Subject) (old new : WorldData) (reply : Reply) → IsSeated seat old.seats subject
     → Applies seat number subject (staged_in number old.transactions) old new reply → AddsAlone (Commit seat number) old new reply
 adds_applies seat number subject old new reply seated d =
@@ -117,6 +121,9 @@ adds_alone (Finish seat number) old new reply happens =
     (λ who may d. by_unless old new reply _ (λ r. AddsAlone (Finish seat number) old new r) (λ fault want same. stands_same old new same) (λ d. adds_finishes seat number who old new reply d) d) happens
 adds_alone (DropSearch seat number) old new reply happens =
     by_if (may_go_on seat number old) old new reply _ (λ _. StandsAs old new) (λ fault may same. stands_same old new same) (λ s may d. stands_by old new _ d.0 (refl, refl, refl, refl)) happens
+adds_alone (Answer seat window) old new reply happens =
+    by_if (may_answer seat old) old new reply _ (λ r. AddsAlone (Answer seat window) old new r) (λ fault may same. stands_same old new same)
+    (λ subject may d. by_unless old new reply _ (λ r. AddsAlone (Answer seat window) old new r) (λ fault want same. stands_same old new same) (λ d. adds_answers seat subject window old new reply d) d) happens
 adds_alone (Begin seat) old new reply happens =
     by_if (may_begin seat old) old new reply _ (λ _. StandsAs old new) (λ fault may same. stands_same old new same)
     (λ x may d. by_unless old new reply _ (λ _. StandsAs old new) (λ fault want same. stands_same old new same) (λ d. stands_by old new _ d.0 (refl, refl, refl, refl)) d) happens

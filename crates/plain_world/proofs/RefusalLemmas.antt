@@ -17,8 +17,8 @@ use Rattle.plain_world.specs.declared.outcomes.Outcome.TheVariants as outcomes
 use Rattle.plain_world.specs.declared.open_searches.Search.{Search}
 use Rattle.plain_world.specs.declared.advances.Advance.TheVariants as advances
 use Rattle.tree_answers.specs.declared.answers.Visit.TheVariants as visits
-use Rattle.plain_world.specs.Admitting.{LAST, and_then, given, subject_at, search_with, owned, transaction_owned, may_sit, may_open, may_go_on, may_finish, may_begin, may_step, may_stage, may_commit, may_govern, may_roll}
-use Rattle.plain_world.specs.Events.{Event, TakeSeat, OpenSearch, VisitNext, Finish, DropSearch, Begin, Stage, AdvanceWalk, Commit, Abort, Govern, Tend, Roll, Reply, Visited, Advanced, Ended, Failed, If, UnlessMemory, is_want, Happens, Sees, Walks, Visits, Advances, Applies, CommitsAs, Tends, recorded, without_search, without_transaction}
+use Rattle.plain_world.specs.Admitting.{LAST, and_then, given, subject_at, search_with, owned, transaction_owned, may_sit, may_open, may_go_on, may_finish, may_answer, may_begin, may_step, may_stage, may_commit, may_govern, may_roll}
+use Rattle.plain_world.specs.Events.{Event, TakeSeat, OpenSearch, VisitNext, Finish, DropSearch, Answer, Begin, Stage, AdvanceWalk, Commit, Abort, Govern, Tend, Roll, Reply, Visited, Advanced, Ended, Failed, If, UnlessMemory, is_want, Happens, Sees, Walks, Visits, Advances, Applies, CommitsAs, Tends, recorded, without_search, without_transaction}
 use Rattle.plain_world.specs.Laws.{Leaves}
 use Rattle.plain_world.specs.Staging.{TransactionData, transaction_with, next_placement, staged_in}
 use Rattle.plain_world.specs.States.{WorldData, most_features}
@@ -180,6 +180,8 @@ leaves (VisitNext seat number) old new fault happens =
 leaves (Finish seat number) old new fault happens =
     if_same (may_finish seat number old) (Failed fault) old new _ (λ x d. unless_same (is_want fault) old new _ (λ d. absurd (cc (d.2))) d) happens
 leaves (DropSearch seat number) old new fault happens = if_same (may_go_on seat number old) (Failed fault) old new _ (λ x d. absurd (cc (d.1))) happens
+leaves (Answer seat window) old new fault happens =
+    if_same (may_answer seat old) (Failed fault) old new _ (λ x d. unless_same (is_want fault) old new _ (λ d. absurd (cc (d.2))) d) happens
 leaves (Begin seat) old new fault happens =
     if_same (may_begin seat old) (Failed fault) old new _ (λ x d. unless_same (is_want fault) old new _ (λ d. absurd (cc (d.1))) d) happens
 leaves (Stage seat number change) old new fault happens = if_same (may_stage seat number change old) (Failed fault) old new _ (λ x d. absurd (cc (d.1))) happens

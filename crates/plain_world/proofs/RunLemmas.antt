@@ -21,8 +21,8 @@ use Rattle.plain_world.specs.declared.settings.TheConstants.{SEAT_LIMIT}
 use Rattle.plain_world.specs.declared.advances.Advance.TheVariants as advances
 use Rattle.tree_answers.specs.declared.answers.Step.TheVariants as steps
 use Rattle.tree_answers.specs.declared.answers.Visit.TheVariants as visits
-use Rattle.plain_world.specs.Admitting.{LAST, and_then, given, placed, subject_at, stewarded, may_sit, may_open, may_go_on, own_search, has_answered_ready, may_record, may_finish, may_begin, own_transaction, all_placed, may_step, may_stage, may_commit, may_govern, may_roll}
-use Rattle.plain_world.specs.Events.{Event, TakeSeat, OpenSearch, VisitNext, Finish, DropSearch, Begin, Stage, AdvanceWalk, Commit, Abort, Govern, Tend, Roll, Reply, Visited, Advanced, Tended, Ended, Failed, If, is_memory, Happens, Run, Sees, Walks, Visits, Advances, Finishes, Applies, CommitsAs, Governs, Rolls, Tends, recorded, without_transaction}
+use Rattle.plain_world.specs.Admitting.{LAST, and_then, given, placed, subject_at, stewarded, may_sit, may_open, may_go_on, own_search, has_answered_ready, may_record, may_finish, may_answer, may_begin, own_transaction, all_placed, may_step, may_stage, may_commit, may_govern, may_roll}
+use Rattle.plain_world.specs.Events.{Event, TakeSeat, OpenSearch, VisitNext, Finish, DropSearch, Answer, Begin, Stage, AdvanceWalk, Commit, Abort, Govern, Tend, Roll, Reply, Visited, Advanced, Tended, Ended, Failed, If, is_memory, Happens, Run, Sees, Walks, Visits, Advances, Finishes, Answers, Applies, CommitsAs, Governs, Rolls, Tends, recorded, without_transaction}
 use Rattle.plain_world.specs.Staging.{TransactionData, next_placement, staged_in}
 use Rattle.plain_world.specs.States.{WorldData, IsSoundWorld, most_features}
 use Rattle.plain_world.proofs.SoundLemmas.{sound_seated, sound_added}
@@ -75,6 +75,13 @@ finish_seated seat number w who e =
     let c = and_then_ok (has_answered_ready b.0) (λ _. and_then (may_record w) (λ _. Ok (a.0, b.0))) who b.2 in
     let d = and_then_ok (may_record w) (λ _. Ok (a.0, b.0)) who c.2 in
     given_ok (subject_of seat w.seats) a.0 a.1 ∙ ap (λ (p : Subject × Search). Some p.0) (same_ok (a.0, b.0) who d.2)
+
+-- the subject to whom a whole search is answered has the seat
+pub answer_seated : (seat : ℕ) (w : WorldData) (subject : Subject) → may_answer seat w ≡ Ok subject → IsSeated seat w.seats subject
+answer_seated seat w subject e =
+    let a = and_then_ok (subject_at seat w) _ subject e in
+    let b = and_then_ok (may_record w) (λ _. Ok a.0) subject a.2 in
+    given_ok (subject_of seat w.seats) a.0 a.1 ∙ ap (λ (s : Subject). Some s) (same_ok a.0 subject b.2)
 
 -- the subject that commits has the seat
 commit_seated : (seat number : ℕ) (w : WorldData) (subject : Subject) → may_commit seat number w ≡ Ok subject → IsSeated seat w.seats subject
@@ -129,6 +136,10 @@ sound_finishes : (seat : ℕ) (who : Subject × Search) (old new : WorldData) (r
 sound_finishes seat who old new reply seated d h =
     sound_same _ new d.3 (sound_added old.seats old.base old.trail old.state _ h (seated, (d.0, d.1, refl, refl)))
 
+sound_answers : (seat : ℕ) (subject : Subject) (window : List Point) (old new : WorldData) (reply : Reply) → IsSeated seat old.seats subject → Answers seat subject window old new reply → IsSoundWorld old → IsSoundWorld new
+sound_answers seat subject window old new reply seated d h =
+    sound_same _ new d.3 (sound_added old.seats old.base old.trail old.state _ h (seated, (d.0, d.1, refl, refl)))
+
 sound_applies : (seat number : ℕ) (subject : Subject) (changes : List Change) (old new : WorldData) (reply : Reply) → IsSeated seat old.seats subject
     → Judged old.state subject changes judgements.Accepted → Applies seat number subject changes old new reply → IsSoundWorld old → IsSoundWorld new
 sound_applies seat number subject changes old new reply seated judged d h =
@@ -165,6 +176,9 @@ sound_event (Finish seat number) old new reply happens h =
     (λ d. sound_finishes seat who old new reply (finish_seated seat number old who may) d h))
 sound_event (DropSearch seat number) old new reply happens h =
     sound_if (may_go_on seat number old) old new reply _ happens h (λ s may d. sound_same _ new d.0 h)
+sound_event (Answer seat window) old new reply happens h =
+    sound_if (may_answer seat old) old new reply _ happens h (λ subject may d. sound_unless (is_memory reply) old new _ d h
+    (λ d. sound_answers seat subject window old new reply (answer_seated seat old subject may) d h))
 sound_event (Begin seat) old new reply happens h =
     sound_if (may_begin seat old) old new reply _ happens h (λ number may d. sound_unless (is_memory reply) old new _ d h (λ d. sound_same _ new d.0 h))
 sound_event (Stage seat number change) old new reply happens h =

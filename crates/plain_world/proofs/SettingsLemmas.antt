@@ -15,8 +15,8 @@ use Rattle.plain_world.specs.declared.open_searches.Search.{Search}
 use Rattle.plain_world.specs.declared.advances.Advance.TheVariants as advances
 use Rattle.tree_answers.specs.declared.answers.Step.TheVariants as steps
 use Rattle.tree_answers.specs.declared.answers.Visit.TheVariants as visits
-use Rattle.plain_world.specs.Admitting.{LAST, may_sit, may_open, may_go_on, may_finish, may_begin, may_step, may_stage, may_commit, may_govern, may_roll}
-use Rattle.plain_world.specs.Events.{Event, TakeSeat, OpenSearch, VisitNext, Finish, DropSearch, Begin, Stage, AdvanceWalk, Commit, Abort, Govern, Tend, Roll, Reply, Visited, Advanced, Tended, Ended, Failed, is_memory, Happens, Sees, Walks, Visits, Advances, CommitsAs, Tends, recorded, without_transaction}
+use Rattle.plain_world.specs.Admitting.{LAST, may_sit, may_open, may_go_on, may_finish, may_answer, may_begin, may_step, may_stage, may_commit, may_govern, may_roll}
+use Rattle.plain_world.specs.Events.{Event, TakeSeat, OpenSearch, VisitNext, Finish, DropSearch, Answer, Begin, Stage, AdvanceWalk, Commit, Abort, Govern, Tend, Roll, Reply, Visited, Advanced, Tended, Ended, Failed, is_memory, Happens, Sees, Walks, Visits, Advances, CommitsAs, Tends, recorded, without_transaction}
 use Rattle.plain_world.specs.Settings.{IsSettled, settings}
 use Rattle.plain_world.specs.Staging.{TransactionData, next_placement, staged_in}
 use Rattle.plain_world.specs.States.{WorldData, most_features}
@@ -94,6 +94,9 @@ settled (Finish seat number) old new reply h =
     (λ who may d. by_unless old new reply _ (λ _. Stay old new) (λ fault want same. stay_same old new same) (λ d. ap settings d.3) d) h
 settled (DropSearch seat number) old new reply h =
     by_if (may_go_on seat number old) old new reply _ (λ _. Stay old new) (λ fault may same. stay_same old new same) (λ s may d. ap settings d.0) h
+settled (Answer seat window) old new reply h =
+    by_if (may_answer seat old) old new reply _ (λ _. Stay old new) (λ fault may same. stay_same old new same)
+    (λ subject may d. by_unless old new reply _ (λ _. Stay old new) (λ fault want same. stay_same old new same) (λ d. ap settings d.3) d) h
 settled (Begin seat) old new reply h =
     by_if (may_begin seat old) old new reply _ (λ r. IsSettled (Begin seat) old new r) (λ fault may same. stay_same old new same)
     (λ number may d. by_unless old new reply _ (λ r. IsSettled (Begin seat) old new r) (λ fault want same. stay_same old new same)

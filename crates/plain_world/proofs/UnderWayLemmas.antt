@@ -24,8 +24,8 @@ use Rattle.plain_world.specs.declared.settings.TheConstants.{CHANGE_LIMIT, SEARC
 use Rattle.plain_world.specs.declared.advances.Advance.TheVariants as advances
 use Rattle.tree_answers.specs.declared.answers.Step.TheVariants as steps
 use Rattle.tree_answers.specs.declared.answers.Visit.TheVariants as visits
-use Rattle.plain_world.specs.Admitting.{LAST, subject_at, next_search, next_transaction, own_transaction, may_add, may_sit, may_open, may_go_on, may_finish, may_begin, may_step, may_stage, may_commit, may_govern, may_roll}
-use Rattle.plain_world.specs.Events.{Event, TakeSeat, OpenSearch, VisitNext, Finish, DropSearch, Begin, Stage, AdvanceWalk, Commit, Abort, Govern, Tend, Roll, Reply, Visited, Advanced, Tended, Ended, Failed, is_memory, Happens, Run, Sees, Walks, Visits, Advances, Applies, CommitsAs, Tends, recorded, with_ready, without_transaction}
+use Rattle.plain_world.specs.Admitting.{LAST, subject_at, next_search, next_transaction, own_transaction, may_add, may_sit, may_open, may_go_on, may_finish, may_answer, may_begin, may_step, may_stage, may_commit, may_govern, may_roll}
+use Rattle.plain_world.specs.Events.{Event, TakeSeat, OpenSearch, VisitNext, Finish, DropSearch, Answer, Begin, Stage, AdvanceWalk, Commit, Abort, Govern, Tend, Roll, Reply, Visited, Advanced, Tended, Ended, Failed, is_memory, Happens, Run, Sees, Walks, Visits, Advances, Applies, CommitsAs, Tends, recorded, with_ready, without_transaction}
 use Rattle.plain_world.specs.Laws.{IsBelowEach, AreGiven, IsWithin, AreWithin, IsUnderWay}
 use Rattle.plain_world.specs.Staging.{TransactionData, transaction_with, staged_in, with_step, staged, one_placed, ended, names, next_placement, placements, brought_by}
 use Rattle.judging.specs.States.{PlainState}
@@ -259,6 +259,9 @@ way_event (Finish seat number) old new reply happens h =
     (λ who may d. by_unless old new reply _ (λ _. IsUnderWay new) (λ fault want same. way_same old new same h) (λ d. way_by new _ d.3 (given_left who.1.number old h) h.transactions h.within) d) happens
 way_event (DropSearch seat number) old new reply happens h =
     by_if (may_go_on seat number old) old new reply _ (λ _. IsUnderWay new) (λ fault may same. way_same old new same h) (λ s may d. way_by new _ d.0 (given_left number old h) h.transactions h.within) happens
+way_event (Answer seat window) old new reply happens h =
+    by_if (may_answer seat old) old new reply _ (λ _. IsUnderWay new) (λ fault may same. way_same old new same h)
+    (λ subject may d. by_unless old new reply _ (λ _. IsUnderWay new) (λ fault want same. way_same old new same h) (λ d. way_by new _ d.3 h.searches h.transactions h.within) d) happens
 way_event (Begin seat) old new reply happens h =
     by_if (may_begin seat old) old new reply _ (λ _. IsUnderWay new) (λ fault may same. way_same old new same h)
     (λ number may d. by_unless old new reply _ (λ _. IsUnderWay new) (λ fault want same. way_same old new same h)

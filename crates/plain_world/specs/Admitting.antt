@@ -93,6 +93,11 @@ may_finish seat number w =
     and_then (has_answered_ready s) (λ _.
     and_then (may_record w) (λ _. Ok (subject, s)))))
 
+-- the subject to whom a whole search is answered
+abbrev pub may_answer : ℕ → WorldData → Result Subject Fault
+may_answer seat w =
+    and_then (subject_at seat w) (λ subject. and_then (may_record w) (λ _. Ok subject))
+
 -- Transactions.
 
 -- the number of the transaction that is opened next

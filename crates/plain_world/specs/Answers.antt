@@ -1,10 +1,11 @@
 -- The answer to a search and the data of a denial, as plain data.
-use Rattle.std.specs.Prelude.{ℕ, List, Option, None, Some}
+use Rattle.std.specs.Prelude.{ℕ, List, map, Option, None, Some}
 use Rattle.plane.specs.declared.point.Point.{Point}
 use Rattle.features.specs.declared.actors.Subject.{Subject}
 use Rattle.features.specs.declared.rows.Feature.{Feature}
 use Rattle.features.specs.Rows.{IsSortedById}
 use Rattle.combining.specs.declared.questions.Question.{Question}
+use Rattle.audit_trail.specs.Records.{DeedData, answered}
 use Rattle.decision.specs.Deciders.{DeciderData}
 use Rattle.decision.specs.Rulings.{Denies}
 use Rattle.judging.specs.declared.causes.Cause.{Cause}
@@ -16,6 +17,12 @@ pub record AnswerData : Type 0 where
   pub window : List Point
   pub decider : DeciderData
   pub rows : List Feature
+
+-- what a record tells of an answer
+abbrev pub answer_deed : AnswerData → DeedData
+answer_deed answer =
+    answered answer.subject answer.window (map (λ row. row.id) answer.rows)
+    (map (λ row. row.version) answer.rows)
 
 -- what every answer keeps: its rows are sorted by id, each meets the window, and the answer's
 -- decider permits the subject to read it

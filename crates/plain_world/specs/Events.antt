@@ -27,7 +27,7 @@ use Rattle.tree_answers.specs.declared.answers.Step.TheVariants as steps
 use Rattle.tree_answers.specs.declared.answers.Tending.{Tending}
 use Rattle.tree_answers.specs.declared.answers.Visit.{Visit}
 use Rattle.tree_answers.specs.declared.answers.Visit.TheVariants as visits
-use Rattle.plain_world.specs.Admitting.{LAST, search_with, may_sit, may_open, may_go_on, may_finish, may_begin, may_step, may_stage, may_commit, may_govern, may_roll}
+use Rattle.plain_world.specs.Admitting.{LAST, search_with, may_sit, may_open, may_go_on, may_finish, may_answer, may_begin, may_step, may_stage, may_commit, may_govern, may_roll}
 use Rattle.plain_world.specs.Answers.{AnswerData, denial_of}
 use Rattle.plain_world.specs.Rolls.{RolledData}
 use Rattle.plain_world.specs.Staging.{TransactionData, next_placement, staged_in, with_step, staged, one_placed, ended}
@@ -39,6 +39,7 @@ pub data Event : Type 0 where
   VisitNext : (seat search : ℕ) → Event
   Finish : (seat search : ℕ) → Event
   DropSearch : (seat search : ℕ) → Event
+  Answer : (seat : ℕ) → (window : List Point) → Event
   Begin : (seat : ℕ) → Event
   Stage : (seat transaction : ℕ) → (change : Change) → Event
   AdvanceWalk : (seat transaction : ℕ) → Event
@@ -139,6 +140,19 @@ Finishes seat who old new reply =
     × (new ≡ without_search who.1.number
     (recorded seat (answered who.0 who.1.window (map (λ row. row.id) rows)
     (map (λ row. row.version) rows)) old))
+
+-- A whole search in one event: the rows that are listed at the state, and their record.
+abbrev pub Answers : ℕ → Subject → List Point → WorldData → WorldData → Reply → Type 0
+Answers seat subject window old new reply =
+    (rows : List Feature) × Listed old.state subject window rows
+    × (reply ≡ Rows (record {
+      subject = subject;
+      window = window;
+      decider = old.state.decider;
+      rows = rows;
+    }))
+    × (new ≡ recorded seat (answered subject window (map (λ row. row.id) rows)
+    (map (λ row. row.version) rows)) old)
 
 -- Transactions.
 
@@ -263,6 +277,9 @@ Happens (Finish seat search) old new reply =
 Happens (DropSearch seat search) old new reply =
     If (may_go_on seat search old) old new reply (λ _. (new ≡ without_search search old)
     × (reply ≡ Done))
+Happens (Answer seat window) old new reply =
+    If (may_answer seat old) old new reply
+    (λ subject. UnlessMemory old new reply (Answers seat subject window old new reply))
 Happens (Begin seat) old new reply =
     If (may_begin seat old) old new reply (λ number. UnlessMemory old new reply (
     (new ≡ record old {

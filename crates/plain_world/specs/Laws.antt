@@ -1,5 +1,6 @@
 -- What the laws over runs say of an event.
 use Rattle.std.specs.Prelude.{◌≡◌, ◌⊎◌, ℕ, ◌+◌, ◌<◌, ◌≤◌, IsTrue, List, [], ◌∷◌, ◌++◌, length, map, Option, None, Some}
+use Rattle.plane.specs.declared.point.Point.{Point}
 use Rattle.features.specs.declared.actors.Subject.{Subject}
 use Rattle.features.specs.declared.rows.Change.{Change}
 use Rattle.features.specs.Changes.{after}
@@ -25,8 +26,8 @@ use Rattle.plain_world.specs.declared.outcomes.Outcome.TheVariants as outcomes
 use Rattle.plain_world.specs.declared.open_searches.Search.{Search}
 use Rattle.plain_world.specs.declared.settings.TheConstants.{CHANGE_LIMIT}
 use Rattle.plain_world.specs.Admitting.{search_with}
-use Rattle.plain_world.specs.Answers.{AnswerData, DenialData, IsDenial, denial_of}
-use Rattle.plain_world.specs.Events.{Event, TakeSeat, OpenSearch, VisitNext, Finish, Begin, Stage, AdvanceWalk, Commit, Govern, Roll, Reply, Number, Done, Rows, Ended, TakenOut, without_search, without_transaction}
+use Rattle.plain_world.specs.Answers.{AnswerData, answer_deed, DenialData, IsDenial, denial_of}
+use Rattle.plain_world.specs.Events.{Event, TakeSeat, OpenSearch, VisitNext, Finish, Answer, Begin, Stage, AdvanceWalk, Commit, Govern, Roll, Reply, Number, Done, Rows, Ended, TakenOut, without_search, without_transaction}
 use Rattle.plain_world.specs.Rolls.{RolledData}
 use Rattle.plain_world.specs.Staging.{TransactionData, transaction_with, staged_in, placements}
 use Rattle.plain_world.specs.States.{WorldData}
@@ -40,6 +41,14 @@ pub record IsExact (seat number : ℕ) (w : WorldData) (answer : AnswerData) : T
   pub ready : IsTrue search.ready
   pub seated : IsSeated seat w.seats answer.subject
   pub window : answer.window ≡ search.window
+  pub decider : answer.decider ≡ w.state.decider
+  pub listed : Listed w.state answer.subject answer.window answer.rows
+
+-- An exact answer to a seat's whole search of a window: it has the seat's subject, the window and the
+-- decider in force, and exactly the listed rows.
+pub record IsAnswerTo (seat : ℕ) (window : List Point) (w : WorldData) (answer : AnswerData) : Type 0 where
+  pub seated : IsSeated seat w.seats answer.subject
+  pub sought : answer.window ≡ window
   pub decider : answer.decider ≡ w.state.decider
   pub listed : Listed w.state answer.subject answer.window answer.rows
 
@@ -122,9 +131,8 @@ deed_of subject changes (outcomes.Refused refusal denial) = turned_away subject 
 -- that record says. A roll takes the trail out, and the state stays. All else leaves trail and
 -- state unchanged.
 abbrev pub AddsAlone : Event → WorldData → WorldData → Reply → Type 0
-AddsAlone (Finish seat search) old new (Rows answer) =
-    HasOneMore seat (answered answer.subject answer.window (map (λ row. row.id) answer.rows)
-    (map (λ row. row.version) answer.rows)) old new
+AddsAlone (Finish seat search) old new (Rows answer) = HasOneMore seat (answer_deed answer) old new
+AddsAlone (Answer seat window) old new (Rows answer) = HasOneMore seat (answer_deed answer) old new
 AddsAlone (Commit seat number) old new (Ended outcome) =
     (subject : Subject) × IsSeated seat old.seats subject
     × HasOneMore seat (deed_of subject (staged_in number old.transactions) outcome) old new

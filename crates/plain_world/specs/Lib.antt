@@ -9,5 +9,6 @@ pub mod Coding
 pub mod Admitting
 pub mod Finding
 pub mod Events
+pub mod Answering
 pub mod Laws
 pub mod Settings

@@ -1,6 +1,7 @@
 //! Laws over runs. The functions do nothing; their contracts state the laws.
 
 ghost use Rattle.std.specs.Prelude.{◌≡◌, ◌⊎◌, ℕ, ◌++◌, ◌∷◌, [], IsTrue, List, Some};
+ghost use Rattle.plane.specs.declared.point.Point.{Point};
 ghost use Rattle.features.specs.Rows.{IsSortedById};
 ghost use Rattle.policy_documents.specs.Documents.{DocumentData};
 ghost use Rattle.decision.specs.Deciders.{DeciderData};
@@ -8,8 +9,8 @@ ghost use Rattle.judging.specs.Judging.{Judged};
 ghost use Rattle.judging.specs.declared.causes.Judgement.{Judgement};
 ghost use Rattle.audit_trail.specs.Legal.{IsSeated, IsLegal, replay};
 ghost use Rattle.plain_world.specs.Answers.{AnswerData};
-ghost use Rattle.plain_world.specs.Events.{Event, Finish, Commit, Govern, Roll, Reply, Number, Rows, Ended, TakenOut, Happens, Failed, Run};
-ghost use Rattle.plain_world.specs.Laws.{IsExact, Accounts, EndsAs, IsStewards, LeadsOn, AddsAlone, Leaves, IsAsked, IsOrdered, IsUnderWay, records_out, in_force, outcome_of};
+ghost use Rattle.plain_world.specs.Events.{Event, Finish, Answer, Commit, Govern, Roll, Reply, Number, Rows, Ended, TakenOut, Happens, Failed, Run};
+ghost use Rattle.plain_world.specs.Laws.{IsExact, IsAnswerTo, Accounts, EndsAs, IsStewards, LeadsOn, AddsAlone, Leaves, IsAsked, IsOrdered, IsUnderWay, records_out, in_force, outcome_of};
 ghost use Rattle.plain_world.specs.Rolls.{RolledData};
 ghost use Rattle.plain_world.specs.Settings.{IsSettled};
 ghost use Rattle.plain_world.specs.Staging.{TransactionData, transaction_with};
@@ -42,9 +43,13 @@ pub fn every_run_is_sound()
 /// decider in force, and it lists exactly the rows that are listed at that moment. The trail up to
 /// then accounts for the state.
 pub fn every_answer_is_exact()
-    ensures { (old mid new : WorldData) (before : List (Event × Reply)) (seat number : ℕ)
+    ensures search { (old mid new : WorldData) (before : List (Event × Reply)) (seat number : ℕ)
         (answer : AnswerData) → IsSoundWorld old → Run old before mid
         → Happens (Finish seat number) mid new (Rows answer) → IsExact seat number mid answer
+        × Accounts mid }
+    ensures whole { (old mid new : WorldData) (before : List (Event × Reply)) (seat : ℕ)
+        (window : List Point) (answer : AnswerData) → IsSoundWorld old → Run old before mid
+        → Happens (Answer seat window) mid new (Rows answer) → IsAnswerTo seat window mid answer
         × Accounts mid }
 {}
 
@@ -122,6 +127,9 @@ pub fn every_run_is_ordered()
     ensures rising { (old mid new : WorldData) (before : List (Event × Reply)) (seat number : ℕ)
         (answer : AnswerData) → IsOrdered old → Run old before mid
         → Happens (Finish seat number) mid new (Rows answer) → IsSortedById answer.rows }
+    ensures whole { (old mid new : WorldData) (before : List (Event × Reply)) (seat : ℕ)
+        (window : List Point) (answer : AnswerData) → IsOrdered old → Run old before mid
+        → Happens (Answer seat window) mid new (Rows answer) → IsSortedById answer.rows }
 {}
 
 /// Over every run from a sound world, the pieces that were rolled out and the present trail are one

@@ -4,6 +4,7 @@
 
 mod admitting;
 mod advances;
+mod answering;
 mod answers;
 mod committing;
 mod denials;

@@ -44,7 +44,7 @@ fn first_parts<A: Allocator>(alloc: A, found: &[(u64, Shape)]) -> Result<Vec<u64
 }
 
 /// Sorts ids, and removes repeated ones.
-fn put_in_order<A: Allocator>(ids: &mut Vec<u64, A>)
+pub(crate) fn put_in_order<A: Allocator>(ids: &mut Vec<u64, A>)
     ensures rises { IsStrictlyIncreasing ids.new.items }
     ensures keeps { (id : ℕ) → Contains ids.old.items id → Contains ids.new.items id }
     ensures few { length ids.new.items ≤ length ids.old.items }

@@ -1,10 +1,11 @@
 //! Seats and searches.
 
 ghost use Rattle.std.specs.Prelude.{◌≡◌, ◌≤◌, ◌<◌, ◌+◌, ◌++◌, [], ◌∷◌, false, length, IfOk, OnErr, IsTrue, Some};
+ghost use Rattle.std.specs.List.Sorted.{IsStrictlyIncreasing};
 ghost use Rattle.judging.specs.Listing.{Listed};
 ghost use Rattle.plain_world.specs.declared.open_searches.Search.{Search};
 ghost use Rattle.plain_world.specs.Admitting.{may_finish, search_with};
-ghost use Rattle.plain_world.specs.Finding.{FindsAll};
+ghost use Rattle.plain_world.specs.Finding.{FindsAll, NamesAll};
 ghost use Rattle.plain_world.specs.Events.{Happens, TakeSeat, Finish, DropSearch, Number, Done, Rows, reply_of, with_ready, without_search};
 
 use crate::answers::Answer;
@@ -98,15 +99,32 @@ impl<A: Allocator + Copy> PlainWorld<A> {
         ensures raised { meter.old ≤ meter.new }
     {
         let ids = ids_found(self.alloc, found)?;
+        self.answer_from(subject, window, ids.as_slice(), meter)
+    }
+
+    /// The answer to a subject's search of a window, from rising ids.
+    pub(crate) fn answer_from(
+        &self,
+        subject: Subject,
+        window: Shape,
+        ids: &[u64],
+        meter: &mut Meter,
+    ) -> Result<Answer<A>, NoMemory>
+        requires rise { IsStrictlyIncreasing ids.now }
+        requires all { NamesAll self.now.state.features window ids.now }
+        ensures told { IfOk result (λ a. Listed self.now.state subject window a.rows
+            × (a
+            ≡ record {
+              subject = subject;
+              window = window;
+              decider = self.now.state.decider;
+              rows = a.rows;
+            })) }
+        ensures metered { meter.new ≤ meter.old + length ids.now }
+        ensures raised { meter.old ≤ meter.new }
+    {
         let folded = self.decider.fold(&subject, &Action::Read)?;
-        let rows = listed(
-            self.alloc,
-            &folded,
-            &window,
-            &self.store,
-            ids.as_slice(),
-            meter,
-        )?;
+        let rows = listed(self.alloc, &folded, &window, &self.store, ids, meter)?;
         let decider = another(&self.decider)?;
         Ok(Answer::new(subject, window, decider, rows))
     }

@@ -1,4 +1,4 @@
-use Rattle.plain_world.proofs.OrderLemmas.{opened_sound, opened_ordered, opened_from_sound, opened_from_ordered, ordered_run, answer_rising}
+use Rattle.plain_world.proofs.OrderLemmas.{opened_sound, opened_ordered, opened_from_sound, opened_from_ordered, ordered_run, answer_rising, whole_answer_rising}
 use Rattle.plain_world.proofs.laws.every_run_is_ordered.Goals as goal
 
 pub returns-clause-opened : goal.returns-clause-opened
@@ -13,3 +13,7 @@ returns-clause-rising c old mid new before seat number answer ordered run happen
 
 pub returns-clause-opened_from : goal.returns-clause-opened_from
 returns-clause-opened_from c subjects base starts limits sorted = (opened_from_sound subjects base starts limits, opened_from_ordered subjects base starts limits sorted)
+
+pub returns-clause-whole : goal.returns-clause-whole
+returns-clause-whole c old mid new before seat window answer ordered run happens =
+    whole_answer_rising seat window mid new answer (ordered_run old before mid run ordered) happens

@@ -1,31 +1,9 @@
-use Rattle.std.proofs.Common.{refl, ap}
-use Rattle.std.specs.Arc.{arc_value}
-use Rattle.decision.specs.Folding.{FoldedData}
-use Rattle.judging.proofs.ListingLemmas.{listed_shown, listed_sorted}
 use Rattle.plain_world.proofs.FindingLemmas.{names_kept}
 use Rattle.plain_world.proofs.worlds.PlainWorld.answer.Goals as goal
 
-pub listed-requires-clause-reads : goal.listed-requires-clause-reads
-listed-requires-clause-reads g c = ap (λ (f : FoldedData). f.action) c.in_ok-folded.ensures
+pub answer_from-requires-clause-rise : goal.answer_from-requires-clause-rise
+answer_from-requires-clause-rise g c = rw (c.as_slice.ensures.value) c.in_ok-ids.ensures.rises
 
-pub listed-requires-clause-rise : goal.listed-requires-clause-rise
-listed-requires-clause-rise g c = rw (c.as_slice.ensures.value) c.in_ok-ids.ensures.rises
-
-pub listed-requires-clause-all : goal.listed-requires-clause-all
-listed-requires-clause-all g c =
-    let finds = rw (← c.self.view_is) at c.requires in
-    rw (c.as_slice.ensures.value) (names_kept c.args.window c.self.inside.store c.args.found.now _ c.in_ok-ids.ensures.keeps finds)
-
-pub new-requires : goal.new-requires
-new-requires g c =
-    let document = (arc_value c.self.inside.decider).document in
-    let told = rw (c.in_ok-folded.ensures, c.deref.ensures) at c.in_ok-rows.ensures.listed in
-    rw (c.in_ok-decider.ensures) (record {
-      sorted = listed_sorted document c.args.subject c.args.window c.self.inside.store c.in_ok-rows.rows.items told c.listed.ensures.sorted;
-      shown = listed_shown document c.args.subject c.args.window c.self.inside.store c.in_ok-rows.rows.items told;
-    })
-
-pub returns-clause-told : goal.returns-clause-told
-returns-clause-told g c =
-    let told = rw (c.in_ok-folded.ensures, c.deref.ensures) at c.in_ok-rows.ensures.listed in
-    rw (← c.self.view_is, c.new.ensures, c.in_ok-decider.ensures) (told, refl)
+pub answer_from-requires-clause-all : goal.answer_from-requires-clause-all
+answer_from-requires-clause-all g c =
+    rw (c.as_slice.ensures.value) (names_kept c.args.window c.args.self.now.state.features _ _ c.in_ok-ids.ensures.keeps c.requires)
