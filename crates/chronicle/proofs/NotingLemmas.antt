@@ -1,6 +1,6 @@
 -- What a call that writes a record makes of a chronicle.
 use Rattle.std.proofs.Common.{◌≡◌, ◌≢◌, ◌<◌, ◌≤◌, ℕ, ◌+◌, ◌==◌, Bool, true, false, List, [], ◌∷◌, ◌++◌, length, map, nat_eq, Option, None, Some, Result, Ok, Err, refl, sym, ap, subst, ◌∙◌, if◌then◌else◌, arith}
-use Rattle.std.specs.Prelude.{IfOk, OnErr, nat_le}
+use Rattle.std.specs.Prelude.{IfOk, OnErr, OnOk, nat_le}
 use Rattle.std.specs.Cmp.Lexicographic.{pointwise}
 use Rattle.std.proofs.lemmas.Slice.Eq.{bytes_eq-Decides}
 use Rattle.plane.specs.declared.point.Point.{Point}
@@ -14,7 +14,8 @@ use Rattle.audit_trail.specs.Records.{DeedData, answered, governed, RecordData}
 use Rattle.judging.specs.States.{PlainState}
 use Rattle.plain_world.specs.Admitting.{given, may_go_on, may_sit, own_search, owned, placed, search_with, subject_at}
 use Rattle.plain_world.specs.Answers.{AnswerData}
-use Rattle.plain_world.specs.Events.{Commit, Ended, Finish, Govern, Happens, Number, Failed, Reply, Roll, Rows, TakenOut, TakeSeat, reply_of}
+use Rattle.plain_world.specs.Answering.{TakesIn}
+use Rattle.plain_world.specs.Events.{Answer, Commit, Ended, Finish, Govern, Happens, Number, Failed, Reply, Roll, Rows, TakenOut, TakeSeat, reply_of}
 use Rattle.plain_world.specs.Laws.{AddsAlone, HasOneMore, IsJudgement, deed_of}
 use Rattle.plain_world.specs.Rolls.{RolledData}
 use Rattle.plain_world.specs.Staging.{TransactionData, staged_in}
@@ -109,6 +110,17 @@ pub finish_refused : (base : PlainState) (rolled : List RecordData) (seat number
     → OnErr result (seen base rolled new ≡ seen base rolled old)
 finish_refused base rolled seat number old new (Ok answer) happens = tt
 finish_refused base rolled seat number old new (Err fault) happens = seen_same base rolled old new (leaves (Finish seat number) old new fault happens)
+
+-- Whole searches.
+
+-- what a chronicle keeps, after an answer was to be taken in
+pub held_taken : {E : Type 0} (r : RecordData) (old new : WorldData) (result : Result (Unit {0}) E) (base : PlainState) (rolled : List RecordData) (changed : ℕ)
+    → OnOk result (TakesIn r old new) → OnErr result (new ≡ old) → IsHeld base rolled changed old → IsHeld base rolled changed new
+held_taken r old new (Ok u) base rolled changed takes same held =
+    let event = Answer r.seat takes.answer.window in
+    held_still event old new (Rows takes.answer) base rolled changed r.seat (told_answer takes.answer) takes.happens (λ state. refl)
+    (adds_alone event old new (Rows takes.answer) takes.happens) held
+held_taken r old new (Err e) base rolled changed takes same held = subst (IsHeld base rolled changed) (sym same) held
 
 -- Lists of changes.
 

@@ -1,17 +1,17 @@
 -- What a call that succeeds adds to a chronicle.
-use Rattle.std.specs.Prelude.{◌≡◌, ◌≤◌, ◌+◌, ℕ, IsTrue, List, [], ◌∷◌, ◌++◌, length, map, Some}
+use Rattle.std.specs.Prelude.{◌≡◌, ◌≤◌, ◌+◌, ℕ, IsTrue, List, [], ◌∷◌, ◌++◌, length, Some}
 use Rattle.plane.specs.declared.point.Point.{Point}
 use Rattle.features.specs.declared.actors.Subject.{Subject}
 use Rattle.features.specs.declared.rows.Change.{Change}
 use Rattle.features.specs.Subjects.{subject_named}
 use Rattle.decision.specs.Deciders.{DeciderData}
 use Rattle.audit_trail.specs.Legal.{IsSeated}
-use Rattle.audit_trail.specs.Records.{DeedData, answered, governed}
+use Rattle.audit_trail.specs.Records.{DeedData, governed}
 use Rattle.judging.specs.declared.causes.Judgement.TheVariants as judgements
 use Rattle.judging.specs.Judging.{Judged}
 use Rattle.judging.specs.Listing.{Listed}
 use Rattle.judging.specs.States.{PlainState}
-use Rattle.plain_world.specs.Answers.{AnswerData}
+use Rattle.plain_world.specs.Answers.{AnswerData, answer_deed}
 use Rattle.plain_world.specs.Laws.{GoesWith, asked, deed_of}
 use Rattle.plain_world.specs.declared.outcomes.Outcome.{Outcome}
 use Rattle.plain_world.specs.declared.outcomes.Outcome.TheVariants as outcomes
@@ -20,8 +20,7 @@ use Rattle.chronicle.specs.Chronicles.{ChronicleData, noted}
 
 -- the record of an answer
 abbrev pub told_answer : AnswerData → DeedData
-told_answer answer = answered answer.subject answer.window (map (λ row. row.id) answer.rows)
-    (map (λ row. row.version) answer.rows)
+told_answer answer = answer_deed answer
 
 -- a seat was given to the subject of this name, with the next number
 pub record IsSeatGiven (name : List ℕ) (number : ℕ) (old new : ChronicleData) : Type 0 where
@@ -40,6 +39,15 @@ pub record IsAnswered (seat : ℕ) (sought : List Point) (answer : AnswerData)
   pub decider : answer.decider ≡ old.state.decider
   pub listed : Listed old.state answer.subject answer.window answer.rows
   pub told : new ≡ noted seat (told_answer answer) old
+
+-- the answer is for the seat's subject and this window, by the decider in force, with just the rows
+-- that are listed at the present state
+pub record IsAnswerAt (seat : ℕ) (sought : List Point) (answer : AnswerData) (c : ChronicleData)
+    : Type 0 where
+  pub seated : IsSeated seat c.seats answer.subject
+  pub window : answer.window ≡ sought
+  pub decider : answer.decider ≡ c.state.decider
+  pub listed : Listed c.state answer.subject answer.window answer.rows
 
 -- the outcome is the judgement on a subject's list at a state; a denial goes with the refusal
 abbrev pub IsJudged : Subject → List Change → PlainState → Outcome → Type 0

@@ -2,6 +2,7 @@
 //! the present trail.
 #![tactic(auto)]
 
+mod answering;
 mod chronicles;
 mod committing;
 mod comparing;

@@ -1,3 +1,4 @@
+pub mod RefusingLemmas
 pub mod SearchLemmas
 pub mod PairLemmas
 pub mod KeptLemmas

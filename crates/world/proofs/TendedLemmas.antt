@@ -1,5 +1,5 @@
 -- Events keep what every world keeps, and what is known of the slots that were tended.
-use Rattle.std.proofs.Common.{◌≡◌, ◌⊎◌, ℕ, ◌+◌, ◌==◌, Bool, true, false, ◌||◌, List, [], ◌∷◌, ◌++◌, Contains, Result, Ok, if◌then◌else◌, IsTrue, inl, inr, refl, sym, ap, subst, ◌∙◌}
+use Rattle.std.proofs.Common.{◌≡◌, ◌⊎◌, ℕ, ◌+◌, ◌==◌, Bool, true, false, ◌||◌, List, [], ◌∷◌, ◌++◌, Contains, Result, Ok, Err, OnOk, OnErr, if◌then◌else◌, IsTrue, inl, inr, refl, sym, ap, subst, ◌∙◌}
 use Rattle.std.specs.List.{list_any}
 use Rattle.node_arena.specs.declared.handle.Handle.{Handle}
 use Rattle.node_arena.specs.Slots.{value_at}
@@ -7,11 +7,13 @@ use Rattle.plane.specs.declared.point.Point.{Point}
 use Rattle.features.specs.declared.rows.Change.{Change}
 use Rattle.features.specs.declared.rows.Feature.{Feature}
 use Rattle.policy_documents.specs.Documents.{DocumentData}
+use Rattle.audit_trail.specs.Records.{RecordData}
 use Rattle.plain_world.specs.declared.faults.Fault.{Fault}
 use Rattle.plain_world.specs.declared.outcomes.Outcome.{Outcome}
 use Rattle.plain_world.specs.declared.open_searches.Search.{Search}
 use Rattle.plain_world.specs.Admitting.{may_begin, may_finish, may_go_on, may_govern, may_open, may_roll, may_sit, may_stage}
 use Rattle.plain_world.specs.Answers.{AnswerData}
+use Rattle.plain_world.specs.Answering.{TakesIn}
 use Rattle.plain_world.specs.Events.{Event, TakeSeat, Finish, DropSearch, Begin, Stage, Commit, Abort, Govern, Roll, Reply, Done, Number, Ended, Rows, Failed, Happens}
 use Rattle.plain_world.specs.Keeping.{brings, is_staged, stands}
 use Rattle.plain_world.specs.Staging.{TransactionData, staged, with_step}
@@ -30,7 +32,7 @@ use Rattle.world.specs.Stepping.{KeepsPair}
 use Rattle.world.specs.Walks.{JourneyData, walk_begun, walk_ended}
 use Rattle.world.specs.declared.kept_slots.KeptSlots.{KeptSlots}
 use Rattle.world.proofs.KeptSlotLemmas.{Fewer, fewer_one, fewer_same}
-use Rattle.world.proofs.WorldLemmas.{indexed, world_begun, world_dropped, world_finished, world_govern, world_opened, world_roll, world_seat, world_stage}
+use Rattle.world.proofs.WorldLemmas.{indexed, world_begun, world_dropped, world_finished, world_govern, world_opened, world_roll, world_seat, world_stage, world_taken}
 
 -- ---- what a world keeps
 
@@ -122,6 +124,9 @@ keeps_finished seat number old new answer happens =
     let d = admitted (may_finish seat number old) old new (Rows answer) _ refl happens in
     keeps_stays old new _ d.2.3 refl refl
 
+keeps_taken : (r : RecordData) (old new : WorldData) → TakesIn r old new → KeepsOn old new
+keeps_taken r old new takes = keeps_stays old new _ takes.added refl refl
+
 -- ---- what is known of slots
 
 pub kept_on : (w v : WorldData) (t u : Index) (notes : KeptSlots) → KeepsOn w v → Fewer (tree_of frames t) (tree_of frames u) → AreKept w t notes → AreKept v u notes
@@ -187,6 +192,11 @@ module _ (w v : WorldData) (t : Index) (js : List JourneyData) (notes : KeptSlot
 
   pub tended_roll : (seat : ℕ) (reply : Reply) → Happens (Roll seat) w v reply → IsTended (indexed v t js) notes
   tended_roll seat reply happens = record { world = world_roll seat w v t js reply happens h.world; kept = beside w v t notes (keeps_roll seat w v reply happens) h.kept }
+
+  -- an answer is taken in, or refused
+  pub tended_taken : {E : Type 0} (r : RecordData) (result : Result (Unit {0}) E) → OnOk result (TakesIn r w v) → OnErr result (v ≡ w) → IsTended (indexed v t js) notes
+  tended_taken r (Ok u) takes same = record { world = world_taken r w v t js takes h.world; kept = beside w v t notes (keeps_taken r w v takes) h.kept }
+  tended_taken r (Err e) takes same = unchanged_world same
 
   pub tended_begun : (seat number : ℕ) → Happens (Begin seat) w v (Number number) → IsTended (indexed v t (walk_begun number js)) notes
   tended_begun seat number happens = record { world = world_begun seat number w v t js happens h.world; kept = beside w v t notes (keeps_begun seat w v (Number number) happens) h.kept }

@@ -11,7 +11,7 @@ use Rattle.features.specs.declared.rows.Change.{Change}
 use Rattle.features.specs.declared.rows.Feature.{Feature}
 use Rattle.policy_documents.specs.Documents.{DocumentData}
 use Rattle.decision.specs.Deciders.{DeciderData}
-use Rattle.audit_trail.specs.Records.{answered}
+use Rattle.audit_trail.specs.Records.{RecordData, answered}
 use Rattle.plain_world.specs.declared.faults.Fault.{Fault}
 use Rattle.plain_world.specs.declared.faults.Fault.TheVariants as faults
 use Rattle.plain_world.specs.declared.advances.Advance.TheVariants as advances
@@ -21,8 +21,9 @@ use Rattle.plain_world.specs.declared.settings.Starts.{Starts}
 use Rattle.plain_world.specs.declared.settings.TheConstants.{TRANSACTION_LIMIT}
 use Rattle.plain_world.specs.Admitting.{LAST, given, may_begin, may_finish, may_go_on, may_open, may_step, next_transaction, own_search, owned, search_with, subject_at}
 use Rattle.plain_world.specs.Answers.{AnswerData}
-use Rattle.plain_world.specs.Events.{Event, TakeSeat, OpenSearch, Finish, DropSearch, AdvanceWalk, Begin, Stage, Commit, Abort, Govern, Roll, Reply, Done, Number, Advanced, Ended, Rows, Failed, Happens, recorded, without_search, without_transaction}
-use Rattle.plain_world.specs.Finding.{FindsAll}
+use Rattle.plain_world.specs.Events.{Event, TakeSeat, OpenSearch, Finish, DropSearch, Answer, AdvanceWalk, Begin, Stage, Commit, Abort, Govern, Roll, Reply, Done, Number, Advanced, Ended, Rows, Failed, Happens, recorded, without_search, without_transaction}
+use Rattle.plain_world.specs.Answering.{TakesIn}
+use Rattle.plain_world.specs.Finding.{FindsAll, NamesAll}
 use Rattle.plain_world.specs.Laws.{IsUnderWay}
 use Rattle.plain_world.specs.Staging.{TransactionData, transaction_with, next_placement, with_step, one_placed}
 use Rattle.plain_world.specs.declared.outcomes.Outcome.{Outcome}
@@ -36,7 +37,8 @@ use Rattle.search_tree.specs.Advances.{HasPlacedBehindNone}
 use Rattle.tree_answers.specs.declared.answers.Step.TheVariants as steps
 use Rattle.tree_answers.specs.declared.fault.TreeFault.TheVariants as tree
 use Rattle.search_tree.specs.Calls.{IsComplete, IsOpen, IsShut}
-use Rattle.search_tree.specs.Trees.{IsFirst, PlainWalk, SeenSearch, search_in}
+use Rattle.search_tree.specs.Trees.{IsFirst, PlainWalk, SeenSearch, search_in, tree_of}
+use Rattle.tree_reading.specs.Reading.{HasAll}
 use Rattle.world.specs.Index.{HasFeatures, Index, IndexedWorld, IsWorld, IndexServes, frames}
 use Rattle.world.specs.Walks.{AreWalks, IsWalkFor, JourneyData, walk_begun, walk_ended, with_walk}
 use Rattle.world.proofs.SearchLemmas.{has_number}
@@ -160,6 +162,26 @@ finds_all w t number s found h is ready complete =
         (λ meet. contains_map (λ (pair : ℕ × List Point). pair.0) found (feature.id, feature.shape)
         (complete seen.0 seen.1 (seen.3 ∙ ready) h.contents h.are_contents (feature.id, feature.shape) has.0 (subst (λ (query : List Point). Meet feature.shape query) (sym seen.2) meet)))
         (go features has.1 seen)
+
+-- the ids that the index finds name each feature that meets the window
+pub names_all : (w : WorldData) (t : Index) (window : List Point) (ids : List ℕ) → IndexServes w t → HasAll frames window (tree_of frames t) ids → NamesAll w.state.features window ids
+names_all w t window ids h all = go w.state.features h.features
+  where
+    Named : Feature → Type 0
+    Named feature = Meet feature.shape window → Contains ids feature.id
+
+    go : (features : List Feature) → HasFeatures h.contents features → NamesAll features window ids
+    go [] has = All-nil Named
+    go (feature ∷ features) has =
+        All-cons Named feature features
+        (λ meet. all h.contents h.are_contents (feature.id, feature.shape) has.0 meet) (go features has.1)
+
+-- an answer is taken in: the trail has one more record
+pub world_taken : (r : RecordData) (w v : WorldData) (t : Index) (js : List JourneyData) → TakesIn r w v → IsWorld (indexed w t js) → IsWorld (indexed v t js)
+world_taken r w v t js takes h =
+    world_by (Answer r.seat takes.answer.window) w v t t js js (Rows takes.answer) takes.happens h
+    (subst (λ (x : WorldData). IndexServes x t) (sym takes.added) (serves_beside w (record w { trail = w.trail ++ r ∷ [] }) t (record { searches = refl; next = refl; limits = refl; features = λ all f p. f; placements = λ all p. p }) h.serves))
+    (subst (λ (x : WorldData). AreWalks x.transactions js) (sym takes.added) h.walks)
 
 -- a search that is entered under the next number
 pub entered : (seat number : ℕ) (window : List Point) (w v : WorldData) → number ≡ w.next_search

@@ -1,5 +1,7 @@
 -- What the index's counts show when it refuses.
-use Rattle.std.specs.Prelude.{◌≡◌, ℕ, Bool, true, false, Option, None, Some}
+use Rattle.std.specs.Prelude.{◌≡◌, ◌⊎◌, ℕ, Bool, true, false, Option, None, Some, Result, Ok, Err}
+use Rattle.features.specs.declared.actors.Subject.{Subject}
+use Rattle.memory.specs.NoMemory.{out_of_memory}
 use Rattle.memory.specs.declared.no_memory.NoMemory.{NoMemory}
 use Rattle.predicate_locks.specs.Searches.{last_number}
 use Rattle.plain_world.specs.declared.faults.Fault.{Fault}
@@ -24,6 +26,13 @@ RefusesGrowth index fault = Unit {0}
 abbrev pub GivesUp : Index → ℕ → Fault → Type 0
 GivesUp index number (faults.Tree tree.Overrun) = IsOverrun index number
 GivesUp index number fault = Unit {0}
+
+-- The fault of a whole search of a seat: X1 where the seat was not given. Otherwise S7, where there
+-- are more nodes to see than a search may make steps, or that an allocation was refused.
+abbrev pub FailsToAnswer : Result Subject Fault → Fault → Type 0
+FailsToAnswer (Err first) fault = fault ≡ first
+FailsToAnswer (Ok subject) fault =
+    (fault ≡ faults.Tree tree.Overrun) ⊎ (fault ≡ faults.Memory out_of_memory)
 
 -- the world's fault for a refusal of the index: X12 for out of memory, X9 for all others
 abbrev pub world_fault : TreeFault → Fault

@@ -2,6 +2,7 @@
 //! come in any order, so searches and changes interleave.
 #![tactic(auto)]
 
+mod answering;
 mod committing;
 mod faults;
 mod filling;

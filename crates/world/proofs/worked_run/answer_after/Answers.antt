@@ -7,7 +7,7 @@ returns g c =
     let made = rw c.in-Ok.ensures.ok at c.in_ok-make_all.ensures in
     let opening = c.every_run_is_ordered.ensures.opened c.args.subjects (first_decider c.args.document) first_starts usual_limits in
     let happens = c.in_ok-answer.ensures.happens in
-    let exact = c.every_answer_is_exact.ensures _ _ _ made.steps c.args.seat c.args.search c.in_ok-answer.answer opening.0 made.run happens in
+    let exact = c.every_answer_is_exact.ensures.search _ _ _ made.steps c.args.seat c.args.search c.in_ok-answer.answer opening.0 made.run happens in
     record {
       there = c.make_all.new.world.plain;
       are_made = made;
