@@ -517,6 +517,37 @@ impl<L: HallName, R: Wait + Drop, A: Allocator + Copy> Guarded<L, R, A> {
         Ok((answer, receipt(rt, chronicle, book, share)))
     }
 
+    /// Answers a whole search of a seat of this subject for a window, in one event. The record is
+    /// counted in the seat's share.
+    pub(crate) fn search_whole<W: Wait>(
+        &mut self,
+        rt: &W,
+        seat: u32,
+        subject: &Subject,
+        share: &mut Share<L>,
+        window: &Shape,
+    ) -> Result<(Answer<A>, Arc<Record<A>, A>), Fault>
+        requires { 0 < share.old.parts }
+        ensures subject { IfOk result (λ done. done.0.subject ≡ subject.now) }
+        ensures window { IfOk result (λ done. done.0.window ≡ window.now) }
+        ensures shown { IfOk result (λ done. IsAnswer done.0) }
+        ensures receipt { IfOk result
+            (λ done. arc_value done.1 ≡ record { seat = seat; deed = told_answer done.0 }) }
+        ensures amount { OnOk result (share.new.amount ≡ share.old.amount + 1) }
+        ensures err { OnErr result (share.new.amount ≡ share.old.amount) }
+        ensures parts { share.new.parts ≡ share.old.parts }
+    {
+        let Guarded {
+            chronicle,
+            book,
+            ..
+        } = self;
+        is_seat_of(chronicle, seat, subject)?;
+        let answer = chronicle.search(seat, window)?;
+        let _shown = answer.rows();
+        Ok((answer, receipt(rt, chronicle, book, share)))
+    }
+
     /// Goes on with a search of a seat of this subject for a window, with so many events at most,
     /// its finish among them.
     pub(crate) fn search_on<W: Wait>(

@@ -11,7 +11,7 @@ use crate::guarded::Guarded;
 use crate::halls::Hall;
 use crate::names::HallName;
 use crate::seats::Seat;
-use crate::sections::{Pause, Searching, TRY_LIMIT, Unfinished, events_in_section};
+use crate::sections::{Pause, Searching, TRY_LIMIT, Unfinished};
 use audit_trail::Record;
 use features::Subject;
 use memory::GrowVec;
@@ -50,9 +50,50 @@ fn wait_or_give_up<L: HallName, R: Wait + Drop, A: Allocator, W: Wait>(
     Err(HallFault::from(fault))
 }
 
-/// Searches a window for a seat of this subject, in one critical section after another. The record
-/// is counted in the seat's share. A search that finds as many open as may be waits until one ends;
-/// S2 after `TRY_LIMIT` tries. After a fault no search is open.
+/// Searches a window for a seat of this subject, each event in a critical section of its own. The
+/// record is counted in the seat's share. A search that finds as many open as may be waits until one
+/// ends; S2 after `TRY_LIMIT` tries. After a fault no search is open.
+fn searched_by_steps<L: HallName, R: Wait + Drop, A: Allocator + Copy, W: Wait, P: Pause>(
+    rt: &W,
+    hall: &Hall<L, R, A>,
+    seat: u32,
+    subject: &Subject,
+    share: &mut Share<L>,
+    window: &Shape,
+    pause: &mut P,
+) -> Result<(Answer<A>, Arc<Record<A>, A>), HallFault>
+    requires { 0 < share.old.parts }
+    ensures subject { IfOk result (λ done. done.0.subject ≡ subject.now) }
+    ensures window { IfOk result (λ done. done.0.window ≡ window.now) }
+    ensures shown { IfOk result (λ done. IsAnswer done.0) }
+    ensures receipt { IfOk result
+        (λ done. arc_value done.1 ≡ record { seat = seat; deed = told_answer done.0 }) }
+    ensures amount { OnOk result (share.new.amount ≡ share.old.amount + 1) }
+    ensures err { OnErr result (share.new.amount ≡ share.old.amount) }
+    ensures parts { share.new.parts ≡ share.old.parts }
+{
+    let mut searching = Searching::New;
+    let mut tries = TRY_LIMIT;
+    for _ in rt.forever() {
+        let mut guarded = hall.lock.lock(rt);
+        match guarded.search_on(rt, seat, subject, share, window, &mut searching, 1) {
+            Ok(done) => {
+                drop(guarded);
+                hall.search_ended.notify_all();
+                return Ok(done);
+            }
+            Err(Unfinished::More) => drop(guarded),
+            Err(Unfinished::Refused(fault)) => {
+                wait_or_give_up(rt, hall, guarded, seat, searching, fault, &mut tries)?;
+            }
+        }
+        pause.between();
+    }
+    unreachable!()
+}
+
+/// Searches a window for a seat of this subject: as a whole, in one event, unless the pause wants
+/// steps. The record is counted in the seat's share.
 fn searched<L: HallName, R: Wait + Drop, A: Allocator + Copy, W: Wait, P: Pause>(
     rt: &W,
     hall: &Hall<L, R, A>,
@@ -72,34 +113,29 @@ fn searched<L: HallName, R: Wait + Drop, A: Allocator + Copy, W: Wait, P: Pause>
     ensures err { OnErr result (share.new.amount ≡ share.old.amount) }
     ensures parts { share.new.parts ≡ share.old.parts }
 {
-    let events = events_in_section(pause);
-    let mut searching = Searching::New;
-    let mut tries = TRY_LIMIT;
-    for _ in rt.forever() {
-        let mut guarded = hall.lock.lock(rt);
-        match guarded.search_on(rt, seat, subject, share, window, &mut searching, events) {
-            Ok(done) => {
-                drop(guarded);
-                hall.search_ended.notify_all();
-                return Ok(done);
-            }
-            Err(Unfinished::More) => drop(guarded),
-            Err(Unfinished::Refused(fault)) => {
-                wait_or_give_up(rt, hall, guarded, seat, searching, fault, &mut tries)?;
-            }
-        }
-        pause.between();
+    if pause.wants_steps() {
+        return searched_by_steps(rt, hall, seat, subject, share, window, pause);
     }
-    unreachable!()
+    let done = hall
+        .lock
+        .lock(rt)
+        .search_whole(rt, seat, subject, share, window);
+    match done {
+        Ok(done) => Ok(done),
+        Err(fault) => Err(HallFault::from(fault)),
+    }
 }
 
 impl<'h, L: HallName, R: Wait + Drop, A: Allocator + Copy> Seat<'h, L, R, A> {
-    /// Searches a window: lists what meets it and the seat's subject may read, when the search
-    /// finishes. Where 16 searches are open, it waits until one ends, and is then tried again, at
-    /// most `TRY_LIMIT` times. H6 where there is no memory for the receipt's place; H5 with S2
-    /// where 16 searches are open at each try, S6 where the numbers of searches are at their end,
-    /// S7 where the search takes too many steps, X10 where the trail is full, X12 where an
-    /// allocation is refused. A fault leaves the seat unchanged.
+    /// Searches a window: lists what meets it and the seat's subject may read. The search is one
+    /// event, in one critical section, unless the pause wants steps. H6 where there is no memory for
+    /// the receipt's place; H5 with S7 where the search takes too many steps, X10 where the trail is
+    /// full, X12 where an allocation is refused. A fault leaves the seat unchanged.
+    ///
+    /// By steps, the rows are those of the moment when the search finishes. Where 16 searches are
+    /// open, it then waits until one ends, and is tried again, at most `TRY_LIMIT` times. H5 with S2
+    /// where 16 searches are open at each try, and with S6 where the numbers of searches are at
+    /// their end, come by steps alone.
     pub fn search<W: Wait, P: Pause>(
         &mut self,
         rt: &W,

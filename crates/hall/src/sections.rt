@@ -2,7 +2,7 @@
 
 use world::Fault;
 
-/// The most events of a call in one critical section.
+/// The most events of a commit in one critical section.
 pub const SECTION_EVENTS: u32 = 4_096;
 
 /// The most tries of a call that has to wait: of a list that searches hold back, or that finds as
@@ -15,9 +15,9 @@ pub trait Pause {
     /// one, and never behind the last one.
     fn between(&mut self);
 
-    /// Whether each event of a call is a critical section of its own. If not, a call makes all its
-    /// events in one; but it leaves a section after `SECTION_EVENTS` events, and where it has
-    /// waited to be tried again.
+    /// Whether each event of a call is a critical section of its own, and a search is made by
+    /// steps. If not, a search is one event, and a commit makes all its events in one section; but
+    /// it leaves a section after `SECTION_EVENTS` events, and where it has waited to be tried again.
     fn wants_steps(&self) -> bool {
         false
     }
@@ -31,7 +31,7 @@ impl Pause for NoPause {
     fn between(&mut self) {}
 }
 
-/// The most events in a critical section of a call with this pause.
+/// The most events in a critical section of a commit with this pause.
 pub(crate) fn events_in_section<P: Pause>(pause: &P) -> u32 {
     if pause.wants_steps() {
         1

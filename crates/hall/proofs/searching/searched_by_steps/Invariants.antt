@@ -1,5 +1,5 @@
 use Rattle.std.proofs.Common.{◌≡◌}
-use Rattle.hall.proofs.searching.searched.Given as goal
+use Rattle.hall.proofs.searching.searched_by_steps.Given as goal
 
 abbrev pub invariant-loop : goal.invariant-loop
 invariant-loop g l =
