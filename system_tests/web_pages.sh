@@ -13,8 +13,9 @@ told=$(talk map.sock "HELLO ines" "ADD 1 mast POINT (10 20)" "ADD 2 mast POINT (
 [ "$(tail -n 2 <<< "$told")" = $'applied 1\nbye' ] || fail "$told"
 answers /collections/mast/items "200 OK" '"numberMatched":2' '"coordinates":[7.0000010,46.0000020]' '"version":1'
 answers /collections/road/items "200 OK" '"numberMatched":0'
-answers "/collections/features/items?limit=1" "200 OK" '"numberMatched":2' '"numberReturned":1' '"rel":"next"' "kept=1"
-answers "/collections/features/items?kept=1&after=1&limit=1" "200 OK" '"id":2' '"numberReturned":1'
+answers "/collections/features/items?limit=1" "200 OK" '"numberMatched":2' '"numberReturned":1' '"rel":"next"' "kept="
+[[ $body =~ kept=([0-9]+) ]] || fail "no number: $body"
+answers "/collections/features/items?kept=${BASH_REMATCH[1]}&after=1&limit=1" "200 OK" '"id":2' '"numberReturned":1'
 answers "/collections/mast/items?bbox=7.0000009,46,7.0000011,47" "200 OK" '"numberMatched":1' '"id":1'
 answers /collections/mast/items/2 "200 OK" '"id":2'
 [[ $fields == *'etag: "1"'* ]] || fail "no tag: $fields"

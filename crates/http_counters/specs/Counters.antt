@@ -26,7 +26,7 @@ IsTextFor Watching text = (readings : Readings) × (text ≡ metrics_text readin
 IsTextFor _ text = text ≡ []
 
 -- the request is answered at this route: by the answers, or the pieces, that are kept when its turn
--- comes, or by some counts
+-- comes, or with no answer kept; or by some counts
 abbrev pub AnswersAt : {S : Type 0} → (M : Type 0) → (S → Option Subject) → (Call → S → S → SaidData
     → Type 0) → Place → Option (List ℕ) → Route → Request (List ℕ) → S → S → Response → Type 0
 AnswersAt M subject_of serves place reader Reading request served after response =

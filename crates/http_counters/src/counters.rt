@@ -13,7 +13,7 @@ use http_server::{Response, Service};
 use map_calls::{Call, Pieces};
 use map_http::{
     Route, answer_calling, answer_changing, answer_listing, answer_reading, answer_watching,
-    route_of,
+    asks_kept, route_of,
 };
 use map_metrics::{Tally, metrics_text};
 use map_readings::Metrics;
@@ -28,8 +28,9 @@ use std::time::{Clock, Instant};
 /// which pages are still to come are shared with other counters, so a further page may be asked for
 /// at any of them; so are the pieces of the trail, and what is counted.
 ///
-/// Counters take turns where they read pages of the map, and where they are asked for the policy or
-/// the trail: a lock is held while such a request is answered. Changes and lists take no lock here.
+/// Counters take turns where they give a further page of an answer that is kept, and where they are
+/// asked for the policy or the trail: a lock is held while such a request is answered. Searches,
+/// changes and lists are answered without one here.
 #[derive(Drop)]
 pub struct Counter<'a, S: Session + Drop, R: Wait + Clock> {
     pub rt: &'a R,
@@ -79,8 +80,43 @@ fn route_at(reader: Option<Name>, request: &Request<Bytes>) -> Route
 }
 
 impl<S: Session + Drop, R: Wait + Clock> Counter<'_, S, R> {
+    /// Where what comes of a request is kept meanwhile. `None` where it asks for what is kept
+    /// already, and where there is no memory.
+    fn aside_for(&self, request: &Request<Bytes>) -> Option<Kept<Global>> {
+        if asks_kept(&self.host, request) {
+            return None;
+        }
+        match self.kept.lock(self.rt).aside() {
+            Ok(aside) => Some(aside),
+            Err(_) => None,
+        }
+    }
+
+    /// Answers a request to read without a lock. What is kept of it stands aside until then, and is
+    /// taken over.
+    fn read_aside(&mut self, aside: Kept<Global>, request: &Request<Bytes>, response: &mut Response)
+        requires { IsBlank response.old }
+        ensures host { self.new.host ≡ self.old.host }
+        ensures answered { AnswersAt S.Memory S.subject_of S.serves (place_of self.old.host)
+            self.old.reader Reading request.now self.old.session self.new.session response.new }
+    {
+        let mut aside = aside;
+        answer_reading(
+            self.heap,
+            &self.host,
+            &mut self.session,
+            &mut aside,
+            request,
+            response,
+        );
+        if !aside.is_empty() {
+            // There is room since it was made aside; a page that is not kept is told to be gone.
+            let _ = self.kept.lock(self.rt).take_over(aside);
+        }
+    }
+
     /// Answers a request to read, by the answers that are kept when its turn comes.
-    fn read(&mut self, request: &Request<Bytes>, response: &mut Response)
+    fn read_kept(&mut self, request: &Request<Bytes>, response: &mut Response)
         requires { IsBlank response.old }
         ensures host { self.new.host ≡ self.old.host }
         ensures answered { AnswersAt S.Memory S.subject_of S.serves (place_of self.old.host)
@@ -95,6 +131,20 @@ impl<S: Session + Drop, R: Wait + Clock> Counter<'_, S, R> {
             request,
             response,
         );
+    }
+
+    /// Answers a request to read: a search without a lock, a further page of its answer by those
+    /// that are kept.
+    fn read(&mut self, request: &Request<Bytes>, response: &mut Response)
+        requires { IsBlank response.old }
+        ensures host { self.new.host ≡ self.old.host }
+        ensures answered { AnswersAt S.Memory S.subject_of S.serves (place_of self.old.host)
+            self.old.reader Reading request.now self.old.session self.new.session response.new }
+    {
+        match self.aside_for(request) {
+            Some(aside) => self.read_aside(aside, request, response),
+            None => self.read_kept(request, response),
+        }
     }
 
     /// Answers a request for the policy or the trail, by the pieces that are kept when its turn

@@ -1,5 +1,5 @@
 -- Requests of HTTP, and what they are answered.
-use Rattle.std.specs.Prelude.{◌≡◌, ℕ, List, Option, None, Some, Result, IfOk, MatchResult}
+use Rattle.std.specs.Prelude.{◌≡◌, ℕ, Bool, List, Option, None, Some, Result, IfOk, MatchResult}
 use Rattle.http.specs.Request.{body_of}
 use Rattle.http.specs.declared.request.Parts.{Parts}
 use Rattle.http.specs.declared.request.Request.{Request}
@@ -16,6 +16,7 @@ use Rattle.map_edits.specs.Editing.{IsChanged}
 use Rattle.session_lines.specs.Replies.{SaidData}
 use Rattle.session_lines.specs.Services.{Call}
 use Rattle.map_sessions.specs.Visiting.{IsAnswered, Place}
+use Rattle.map_sessions.specs.Visiting as reading
 use Rattle.map_sessions.specs.declared.kept.Kept.{Kept}
 use Rattle.map_http.specs.Askers.{way_of}
 use Rattle.map_http.specs.Asking.{asked, decline_data}
@@ -57,6 +58,10 @@ RespondsReading subject_of serves place head outcome service served old new =
     MatchResult (asked place head)
     (λ asked. AnswersAsker subject_of serves place head asked.asker outcome service served old new)
     (λ why. Refuses why outcome service served old new)
+
+-- the request asks for a page of an answer that is kept
+abbrev pub asks_kept : Place → Parts → Bool
+asks_kept place head = reading.asks_kept place (uri_path head.uri) (query_in head.uri)
 
 -- what a request to change says
 abbrev pub change_request : Method → Request (List ℕ) → RequestData

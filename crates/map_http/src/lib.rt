@@ -14,6 +14,6 @@ mod watching;
 
 pub use calls::answer_calling;
 pub use lists::answer_listing;
-pub use requests::{answer_changing, answer_reading};
+pub use requests::{answer_changing, answer_reading, asks_kept};
 pub use routes::{Route, route_of};
 pub use watching::answer_watching;

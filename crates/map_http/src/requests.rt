@@ -1,9 +1,10 @@
 //! Requests for the map, answered by a session.
 
+ghost use Rattle.std.specs.Prelude.{◌≡◌};
 ghost use Rattle.http.specs.Request.{head_of};
 ghost use Rattle.http_server.specs.Response.{IsBlank};
 ghost use Rattle.map_answers.specs.Answers.{answered};
-ghost use Rattle.map_http.specs.Requests.{AnswersChanging, AnswersReading, Changes, RespondsChanging, RespondsReading, TellsOf};
+ghost use Rattle.map_http.specs.Requests.{AnswersChanging, AnswersReading, Changes, RespondsChanging, RespondsReading, TellsOf, asks_kept};
 ghost use Rattle.map_sessions.specs.Visiting.{place_of};
 
 use crate::askers::way_of;
@@ -38,6 +39,17 @@ pub(crate) fn respond(
 {
     let allow = allow_of(route, host.site.classes, request.uri().path().as_bytes());
     tell(response, heap, way_of(host), allow, told);
+}
+
+/// Whether a request asks for a page of an answer that is kept.
+pub fn asks_kept(host: &Host, request: &Request<Bytes>) -> bool
+    ensures { result ≡ asks_kept (place_of host.now) (head_of request.now) }
+{
+    map_sessions::asks_kept(
+        host,
+        request.uri().path().as_bytes(),
+        query_in(request.uri()),
+    )
 }
 
 /// What a request to read is answered.

@@ -1,5 +1,6 @@
 -- Answers to searches of which pages are still to come.
-use Rattle.std.specs.Prelude.{◌≡◌, ℕ, ◌+◌, ◌-◌, ◌^◌, ◌==◌, ◌&&◌, Bool, true, false, List, [], ◌∷◌, ◌++◌, length, min, nat_eq, nat_le, Option, None, Some, if◌then◌else◌}
+use Rattle.std.specs.Prelude.{◌≡◌, ℕ, ◌+◌, ◌-◌, ◌^◌, ◌==◌, ◌&&◌, Bool, true, false, List, [], ◌∷◌, ◌++◌, length, min, nat_eq, nat_le, Option, None, Some, MatchOption, if◌then◌else◌}
+use Rattle.std.specs.List.{last_or}
 use Rattle.std.specs.Cmp.Lexicographic.{pointwise}
 use Rattle.features.specs.declared.rows.Feature.{Feature}
 use Rattle.map_asks.specs.declared.asks.Layer.{Layer}
@@ -44,6 +45,13 @@ pub record IsKept {A : Type 0} (layer : Layer) (asker : List ℕ) (rows : List F
   pub rows_same : answer.rows.items ≡ rows
   pub answers : new.answers.items ≡ trimmed (old.answers.items ++ answer ∷ [])
   pub given : new.given ≡ next_number old.given
+
+-- the newest of these answers is kept with the others, if there is one
+abbrev pub TakesOver : {A : Type 0} → List (KeptRows A) → List (KeptRows A) → List (KeptRows A)
+    → Type 0
+TakesOver aside old new =
+    MatchOption (last_or None aside) (new ≡ old)
+    (λ newest. new ≡ trimmed (old ++ newest ∷ []))
 
 -- an answer was kept under this number, of this collection, for this subject
 abbrev pub is_asked : {A : Type 0} → ℕ → Layer → List ℕ → KeptRows A → Bool

@@ -1,5 +1,5 @@
 -- What a request to read is answered.
-use Rattle.std.specs.Prelude.{◌≡◌, ℕ, Bool, not, ◌&&◌, if◌then◌else◌, List, [], ◌∷◌, ◌++◌, length, nat_le, nat_lt, pos, ◌-ℤ◌, codes, Option, None, Some, Result, Ok, Err, MatchOption, MatchResult}
+use Rattle.std.specs.Prelude.{◌≡◌, ℕ, Bool, true, false, not, ◌&&◌, if◌then◌else◌, List, [], ◌∷◌, ◌++◌, length, nat_le, nat_lt, pos, ◌-ℤ◌, codes, Option, None, Some, Result, Ok, Err, MatchOption, MatchResult}
 use Rattle.std.specs.Bool.{MatchBool}
 use Rattle.plane.specs.Canonical.{polygon_of}
 use Rattle.plane.specs.declared.fault.ShapeFault.{ShapeFault}
@@ -14,6 +14,7 @@ use Rattle.map_asks.specs.Windows.{corner}
 use Rattle.map_asks.specs.declared.asks.Ask.{Ask}
 use Rattle.map_asks.specs.declared.asks.Ask.TheVariants as asks
 use Rattle.map_asks.specs.declared.asks.FixedPage.{FixedPage}
+use Rattle.map_asks.specs.declared.faults.AskFault.{AskFault}
 use Rattle.map_asks.specs.declared.asks.Layer.{Layer}
 use Rattle.map_asks.specs.declared.asks.Source.{Source}
 use Rattle.map_asks.specs.declared.asks.Source.TheVariants as sources
@@ -72,6 +73,18 @@ unasked place = if is_keyed place then refusals.NoCredentials else refusals.Nobo
 abbrev pub unasked_items : Place → Source → Refusal
 unasked_items place (sources.Search window) = unasked place
 unasked_items place (sources.Kept number after) = refusals.Gone
+
+-- a page of an answer that is kept is asked for
+abbrev pub is_kept : Source → Bool
+is_kept (sources.Search window) = false
+is_kept (sources.Kept number after) = true
+
+abbrev pub asks_for_kept : Result Ask AskFault → Bool
+asks_for_kept (Ok (asks.Items layer items)) = is_kept items.source
+asks_for_kept _ = false
+
+abbrev pub asks_kept : Place → List ℕ → List ℕ → Bool
+asks_kept place path query = asks_for_kept (ask_of place.grid place.classes path query)
 
 -- the query of an address, with its question mark
 abbrev pub query_text : List ℕ → List ℕ

@@ -1,7 +1,7 @@
 //! Answers to searches of which pages are still to come.
 
-ghost use Rattle.std.specs.Prelude.{◌≡◌, [], ◌∷◌, ◌++◌, IfOk, OnErr, OnOk, ◌+◌, option_map};
-ghost use Rattle.map_sessions.specs.Keeping.{IsKept, fits, fits_in, next_number, rows_asked, same_layer, trimmed};
+ghost use Rattle.std.specs.Prelude.{◌≡◌, ◌↔◌, [], ◌∷◌, ◌++◌, IsTrue, IfOk, OnErr, OnOk, ◌+◌, option_map};
+ghost use Rattle.map_sessions.specs.Keeping.{IsKept, TakesOver, fits, fits_in, next_number, rows_asked, same_layer, trimmed};
 
 use features::{Feature, Name};
 use map_asks::Layer;
@@ -88,6 +88,13 @@ impl<A: Allocator> Kept<A> {
         }
     }
 
+    /// Whether no answer is kept.
+    pub fn is_empty(&self) -> bool
+        ensures { IsTrue result ↔ (self.now.answers.items ≡ []) }
+    {
+        self.answers.is_empty()
+    }
+
     /// The number of the next answer that is kept.
     pub fn next_number(&self) -> u64
         ensures { result ≡ next_number self.now.given }
@@ -110,6 +117,44 @@ impl<A: Allocator> Kept<A> {
             rows,
         })?;
         self.given = number;
+        trim(&mut self.answers);
+        Ok(())
+    }
+
+    /// An empty list aside, which goes on with the next number: what is kept there meanwhile may be
+    /// taken over. Nobody else is given that number. Fails where there is no memory for what comes
+    /// back; nothing changes then.
+    pub fn aside(&mut self) -> Result<Self, NoMemory>
+    where
+        A: Copy,
+        ensures answers { self.new.answers.items ≡ self.old.answers.items }
+        ensures given { OnOk result (self.new.given ≡ next_number self.old.given) }
+        ensures none { IfOk result (λ aside. aside.answers.items ≡ []) }
+        ensures number { IfOk result (λ aside. aside.given ≡ self.old.given) }
+        ensures err { OnErr result (self.new.given ≡ self.old.given) }
+    {
+        self.answers.make_slots(KEPT_LIMIT + 1)?;
+        let aside = Kept {
+            answers: Vec::new(*self.answers.allocator()),
+            given: self.given,
+        };
+        self.given = self.next_number();
+        Ok(aside)
+    }
+
+    /// Takes over the newest answer of a list that was made aside, and keeps it. The oldest answers
+    /// are dropped where there are too many, or too many rows. If out of memory, nothing changes.
+    pub fn take_over(&mut self, aside: Self) -> Result<(), NoMemory>
+        ensures given { self.new.given ≡ self.old.given }
+        ensures ok { OnOk result
+            (TakesOver aside.answers.items self.old.answers.items self.new.answers.items) }
+        ensures err { OnErr result (self.new.answers.items ≡ self.old.answers.items) }
+    {
+        let mut answers = aside.answers;
+        let Some(newest) = answers.pop() else {
+            return Ok(());
+        };
+        self.answers.try_push(newest)?;
         trim(&mut self.answers);
         Ok(())
     }

@@ -10,4 +10,4 @@ mod visits;
 pub use finding::greet;
 pub use kept::{KEPT_LIMIT, KEPT_ROWS_LIMIT, Kept};
 pub use refusals::{Refusal, problem_of};
-pub use visits::{Host, Visit, answer_visit, unasked};
+pub use visits::{Host, Visit, answer_visit, asks_kept, unasked};

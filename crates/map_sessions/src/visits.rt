@@ -2,7 +2,7 @@
 
 ghost use Rattle.std.specs.Prelude.{◌≡◌, ◌++◌, None, IfOk, OnOk};
 ghost use Rattle.map_answers.specs.Answers.{answer_data};
-ghost use Rattle.map_sessions.specs.Visiting.{Answers, GivesItem, GivesItems, GivesKept, GivesRow, GivesRows, GivesSearch, IsAnswered, MayLack, fixed_page, is_keyed, outcome_of, place_of, query_text, row_data, row_page, unasked, unasked_items, visit_address, whole_map, whole_square};
+ghost use Rattle.map_sessions.specs.Visiting.{Answers, GivesItem, GivesItems, GivesKept, GivesRow, GivesRows, GivesSearch, IsAnswered, MayLack, asks_kept, fixed_page, is_keyed, outcome_of, place_of, query_text, row_data, row_page, unasked, unasked_items, visit_address, whole_map, whole_square};
 
 use crate::finding::{find, found_rows};
 use crate::kept::Kept;
@@ -390,6 +390,17 @@ fn respond<S: Service, A: Allocator + Copy>(
             Some(asker) => give_item(alloc, host, &asker, service, visit, layer, id),
             None => Err(unasked(host)),
         },
+    }
+}
+
+/// Whether this path and query ask for a page of an answer that is kept. Any other request to read
+/// may be answered with nothing kept.
+pub fn asks_kept(host: &Host, path: &[u8], query: &[u8]) -> bool
+    ensures { result ≡ asks_kept (place_of host.now) path.now query.now }
+{
+    match read_ask(host.site.grid, host.site.classes, path, query) {
+        Ok(Ask::Items(_, items)) => matches!(items.source, Source::Kept { .. }),
+        _ => false,
     }
 }
 
