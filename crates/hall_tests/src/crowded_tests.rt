@@ -2,7 +2,7 @@
 ghost use Rattle.std.specs.Prelude.{◌≡◌};
 
 use crate::halls::{applied, opened, road, rows, seat, square, wait_for};
-use crate::pauses::wait_for_at_least;
+use crate::pauses::{Steps, wait_for_at_least};
 use hall::{Hall, HallName, LEDGER_PARTS, NoPause, Pause, Seat, Unnamed};
 use std::alloc::Global;
 use std::marker::Brand;
@@ -111,7 +111,7 @@ fn one_more<'h, L: HallName, H: Wait + Drop, R: Wait + Abort>(
     let mut seat = seat;
     assert!(rt; wait_for(&crowd.full), "there is room");
     let is_answered = if searches {
-        rows(rt, &mut seat, square(rt), &mut NoPause).is_some()
+        rows(rt, &mut seat, square(rt), &mut Steps).is_some()
     } else {
         applied(rt, &mut seat, road(rt, 1_000, 5_000, 0), &mut NoPause).is_some()
     };

@@ -2,6 +2,7 @@
 ghost use Rattle.std.specs.Prelude.{◌≡◌};
 
 use crate::halls::{TURNS, applied, opened, point, road, rows, search_meeting, seat, wait_for};
+use crate::pauses::Steps;
 use hall::{
     CloseFault, Hall, HallFault, HallName, LEDGER_PARTS, NoPause, Seat, TRY_LIMIT, Unnamed,
 };
@@ -51,7 +52,7 @@ fn search_elsewhere<'h, L: HallName, H: Wait + Drop, R: Wait + Abort>(
         if answered.load(Ordering::SeqCst) != OPEN {
             break;
         }
-        if rows(rt, &mut seat, point(rt, 100, 100), &mut NoPause) == Some(0) {
+        if rows(rt, &mut seat, point(rt, 100, 100), &mut Steps) == Some(0) {
             searches = searches.saturating_add(1);
         }
     }

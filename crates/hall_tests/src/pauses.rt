@@ -22,6 +22,18 @@ impl Pause for Counting<'_> {
     }
 }
 
+/// A pause that does nothing, and wants steps.
+#[derive(Clone, Copy, Debug)]
+pub struct Steps;
+
+impl Pause for Steps {
+    fn between(&mut self) {}
+
+    fn wants_steps(&self) -> bool {
+        true
+    }
+}
+
 /// What the threads of a test tell one another.
 #[derive(Drop)]
 pub struct Signals {

@@ -4,7 +4,7 @@ ghost use Rattle.std.specs.Prelude.{◌≡◌};
 use crate::halls::{
     TURNS, applied, name, opened, opened_within, point, road, rows, seat, square, wait_for,
 };
-use crate::pauses::{Arriving, Counting, Holding, Signals, wait_for_at_least};
+use crate::pauses::{Arriving, Counting, Holding, Signals, Steps, wait_for_at_least};
 use features::Change;
 use hall::{Hall, HallFault, HallName, LEDGER_PARTS, NoPause, Seat, TRY_LIMIT, Unnamed};
 use plane::Shape;
@@ -369,7 +369,7 @@ fn search_elsewhere<'h, L: HallName, H: Wait + Drop, R: Wait + Abort>(
             return seat;
         }
         assert_eq!(rt;
-            rows(rt, &mut seat, point(rt, 100, 100), &mut NoPause),
+            rows(rt, &mut seat, point(rt, 100, 100), &mut Steps),
             Some(0)
         );
     }
