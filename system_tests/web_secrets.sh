@@ -27,10 +27,11 @@ asked "Authorization: Bearer ines.${secret}x" "401 Unauthorized" '"code":"H1"'
 asked "Authorization: Bearer guest.$secret" "401 Unauthorized" '"code":"H1"'
 asked "landmap-subject: ines" "400 Bad Request" '"code":"field"'
 get "/collections/features/items?limit=1" "Authorization: Basic $basic"
-[[ $body == *'"numberMatched":2'* && $body == *"kept=1"* ]] || fail "a first page: $body"
-get "/collections/features/items?kept=1&after=1&limit=1" "Authorization: Basic $basic"
+[[ $body == *'"numberMatched":2'* && $body =~ kept=([0-9]+) ]] || fail "a first page: $body"
+kept=${BASH_REMATCH[1]}
+get "/collections/features/items?kept=$kept&after=1&limit=1" "Authorization: Basic $basic"
 [[ $status == "200 OK" && $body == *'"id":2'* ]] || fail "a further page: $status $body"
-get "/collections/features/items?kept=1&after=1&limit=1"
+get "/collections/features/items?kept=$kept&after=1&limit=1"
 [ "$status" = "410 Gone" ] || fail "a page of another subject: $status"
 exec {keeps}>&-
 ended one 0
