@@ -12,3 +12,4 @@ pub mod OlderRules
 pub mod OneAnswer
 pub mod SettledLemmas
 pub mod NamingLemmas
+pub mod TestLemmas

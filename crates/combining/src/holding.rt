@@ -52,18 +52,25 @@ fn atom_holds(question: &Question, met: &[Name], atom: &Atom) -> bool
 fn all_hold<A: Allocator>(question: &Question, met: &[Name], matches: &AllOf<A>) -> bool
     ensures { result ≡ list_all (match_holds question.now met.now) matches.now }
 {
-    matches
-        .as_slice()
-        .iter()
-        .all(|test| match_holds(question, met, test))
+    let tests = matches.as_slice();
+    for test in tests {
+        if !match_holds(question, met, test) {
+            return false;
+        }
+    }
+    true
 }
 
 fn some_hold<A: Allocator>(question: &Question, met: &[Name], part: &AnyOf<A>) -> bool
     ensures { result ≡ list_any (list_all (match_holds question.now met.now)) part.now }
 {
-    part.as_slice()
-        .iter()
-        .any(|matches| all_hold(question, met, matches))
+    let rows = part.as_slice();
+    for matches in rows {
+        if all_hold(question, met, matches) {
+            return true;
+        }
+    }
+    false
 }
 
 /// Whether a target holds: each of its parts has an alternative whose matches all hold. `met` are
@@ -71,10 +78,13 @@ fn some_hold<A: Allocator>(question: &Question, met: &[Name], part: &AnyOf<A>) -
 pub fn target_holds<A: Allocator>(question: &Question, met: &[Name], target: &Target<A>) -> bool
     ensures { result ≡ target_holds question.now met.now target.now }
 {
-    target
-        .as_slice()
-        .iter()
-        .all(|part| some_hold(question, met, part))
+    let parts = target.as_slice();
+    for part in parts {
+        if !some_hold(question, met, part) {
+            return false;
+        }
+    }
+    true
 }
 
 /// Whether all these conditions hold; `met` are the names of the zones that the question's shape
@@ -86,9 +96,13 @@ pub fn conditions_hold<A: Allocator>(
 ) -> bool
     ensures { result ≡ list_all (atom_holds question.now met.now) when.now }
 {
-    when.as_slice()
-        .iter()
-        .all(|atom| atom_holds(question, met, atom))
+    let atoms = when.as_slice();
+    for atom in atoms {
+        if !atom_holds(question, met, atom) {
+            return false;
+        }
+    }
+    true
 }
 
 /// Whether a rule applies: its target and all its conditions hold.

@@ -1,8 +1,9 @@
 -- What is appended while a document is compiled.
-use Rattle.std.proofs.Common.{◌≡◌, ℕ, ◌+◌, ◌-◌, ◌<◌, Bool, true, false, ◌&&◌, List, [], ◌∷◌, ◌++◌, length, take, get_or, map, refl, sym, ap, ◌∙◌, arith, append_assoc, length-append, Option, Some, None, cond, if◌then◌else◌, ◌||◌}
+use Rattle.std.proofs.Common.{◌≡◌, ◌==◌, ℕ, ◌+◌, ◌-◌, ◌<◌, Bool, true, false, ◌&&◌, List, [], ◌∷◌, ◌++◌, length, take, get_or, map, refl, sym, ap, ◌∙◌, arith, append_assoc, length-append, Option, Some, None, cond, if◌then◌else◌, ◌||◌}
 use Rattle.std.specs.List.{list_all, position_from}
 use Rattle.std.specs.Prelude.{slice_set}
-use Rattle.std.proofs.lemmas.List.{set_at, append-nil}
+use Rattle.std.proofs.lemmas.Bool.Decides.{Decides-eqb}
+use Rattle.std.proofs.lemmas.List.{set_at, take_at, append-nil}
 use Rattle.policy_documents.specs.Documents.{RuleData, NodeData, Head, set, policy, children_of}
 use Rattle.policy_documents.specs.declared.algorithms.Algorithm.{Algorithm}
 use Rattle.policy_documents.specs.declared.algorithms.Algorithm.TheVariants.{DenyOverrides, PermitOverrides, DenyUnlessPermit, PermitUnlessDeny, FirstApplicable}
@@ -23,7 +24,7 @@ use Rattle.combining.specs.Gathering.{with_verdict, settled_verdict, nothing_gat
 use Rattle.combining.specs.Tallies.{or_else}
 use Rattle.decision.specs.Known.{Fits}
 use Rattle.decision.specs.Plans.{Branches, no_branches, leaf, fork, flat, gathered_from, branches_verdict, leaf_verdict, not_applicable}
-use Rattle.decision.specs.Compiled.{Appends, StandsFor, AllStandFor, placeholder, node_closed}
+use Rattle.decision.specs.Compiled.{Appends, StandsFor, AllStandFor, is_silent, placeholder, node_closed}
 use Rattle.combining.proofs.GatherLemmas.{OwnDecision, gathered-more, rule_applied, rule_left, none_unmakes, settled-set, settled-policy, left-set, left-policy}
 use Rattle.combining.proofs.PlacedLemmas.{sizes_of, parts_of-map}
 
@@ -85,6 +86,13 @@ unfolding gathered
 left_out a g =
     same_gathered _ g.tally.permits _ g.tally.denies _ g.tally.first _ g.counts _ g.permitting _ g.denying (or_false g.tally.permits) (or_false g.tally.denies) (or_else_none g.tally.first)
     (ap (λ b. g.counts && b) (stays a) ∙ and_true g.counts) (unchosen _ _ _ (and_false g.counts)) (unchosen _ _ _ (and_false g.counts))
+
+silent : (a : Algorithm) → is_silent a ≡ true → settled_verdict a nothing_gathered ≡ not_applicable
+silent DenyOverrides e = refl
+silent PermitOverrides e = refl
+silent DenyUnlessPermit e = absurd cc
+silent PermitUnlessDeny e = absurd cc
+silent FirstApplicable e = refl
 
 module _ (A : Type 0) (known : Known) where
   -- what is never applicable can be left out
@@ -156,7 +164,7 @@ module _ (A : Type 0) (known : Known) where
   }
 
   closed-list : (combine : Algorithm) (target : List (List (List Match))) (old behind mid : List (PlanNode A)) → mid ≡ (old ++ placeholder A combine ∷ []) ++ behind →
-      node_closed A (length old) combine target mid ≡ old ++ plan_nodes.Node combine target (length behind) ∷ behind
+      slice_set mid (length old) (plan_nodes.Node combine target (length mid - length old - 1)) ≡ old ++ plan_nodes.Node combine target (length behind) ∷ behind
   closed-list combine target old behind mid e =
       let regrouped : mid ≡ old ++ placeholder A combine ∷ behind = e ∙ append_assoc old (placeholder A combine ∷ []) behind in
       let counted : length mid - length old - 1 ≡ length behind = ap (λ list. length list - length old - 1) regrouped ∙ omega (arith, length-append old (placeholder A combine ∷ behind)) in
@@ -169,13 +177,13 @@ module _ (A : Type 0) (known : Known) where
   node-never n node target old dropped never = appends_none n (λ q met. node_part q met node) old (λ q met fits. dropped q met (sym (never q met fits)))
 
   -- a set or a policy with a reduced target, and the steps below it
-  pub node-kept : (n : ℕ) (node : NodeData) (combine : Algorithm) (target left : List (List (List Match))) (parts : Question → List (List ℕ) → List (Decision × List Placed)) (old mid new : List (PlanNode A)) →
+  node-in : (n : ℕ) (node : NodeData) (combine : Algorithm) (target left : List (List (List Match))) (parts : Question → List (List ℕ) → List (Decision × List Placed)) (old mid new : List (PlanNode A)) →
       ((q : Question) (met : List (List ℕ)) → true ≡ target_holds q met target → settled_verdict combine (gathered_of q met combine n (parts q met)) ≡ part_verdict q met n (node_part q met node)) →
       ((q : Question) (met : List (List ℕ)) → false ≡ target_holds q met target → part_verdict q met n (node_part q met node) ≡ not_applicable) →
       ((q : Question) (met : List (List ℕ)) → Fits known q → target_holds q met target ≡ target_holds q met left) →
-      Appends A known (λ q met. AllStandFor q met n (parts q met)) (old ++ placeholder A combine ∷ []) mid → new ≡ node_closed A (length old) combine left mid →
+      Appends A known (λ q met. AllStandFor q met n (parts q met)) (old ++ placeholder A combine ∷ []) mid → new ≡ slice_set mid (length old) (plan_nodes.Node combine left (length mid - length old - 1)) →
       Appends A known (λ q met. StandsFor q met n (node_part q met node)) old new
-  node-kept n node combine target left parts old mid new kept dropped same inner is = record {
+  node-in n node combine target left parts old mid new kept dropped same inner is = record {
     row = fork combine left inner.row no_branches;
     appended = is ∙ closed-list combine left old (flat A inner.row) mid inner.appended
         ∙ ap (λ list. old ++ plan_nodes.Node combine left (length (flat A inner.row)) ∷ list) (sym (append-nil (flat A inner.row)));
@@ -186,6 +194,48 @@ module _ (A : Type 0) (known : Known) where
           (if b then settled_verdict combine (gathered_from q met combine nothing_gathered inner.row) else not_applicable) ≡ part_verdict q met n (node_part q met node)
       by_target q met fits true holds = ap (settled_verdict combine) (inner.meant q met fits combine) ∙ kept q met (sym holds)
       by_target q met fits false other = sym (dropped q met (sym other))
+
+  nothing-below : (q : Question) (met : List (List ℕ)) (a : Algorithm) (g : Gathered) (row : Branches) → length (flat A row) ≡ 0 → gathered_from q met a g row ≡ g
+  nothing-below q met a g no_branches e = refl
+  nothing-below q met a g (leaf number effect target when others) e = absurd (omega (arith, e))
+  nothing-below q met a g (fork combine target below others) e = absurd (omega (arith, e))
+
+  -- the same with nothing below it, where it would never be applicable: it can be left out
+  node-out : (n : ℕ) (node : NodeData) (combine : Algorithm) (target : List (List (List Match))) (parts : Question → List (List ℕ) → List (Decision × List Placed)) (old mid new : List (PlanNode A)) →
+      ((q : Question) (met : List (List ℕ)) → true ≡ target_holds q met target → settled_verdict combine (gathered_of q met combine n (parts q met)) ≡ part_verdict q met n (node_part q met node)) →
+      ((q : Question) (met : List (List ℕ)) → false ≡ target_holds q met target → part_verdict q met n (node_part q met node) ≡ not_applicable) →
+      Appends A known (λ q met. AllStandFor q met n (parts q met)) (old ++ placeholder A combine ∷ []) mid → is_silent combine ≡ true → length mid - length old - 1 ≡ 0 → new ≡ take (length old) mid →
+      Appends A known (λ q met. StandsFor q met n (node_part q met node)) old new
+  node-out n node combine target parts old mid new kept dropped inner quiet alone is =
+      let regrouped : mid ≡ old ++ placeholder A combine ∷ flat A inner.row = inner.appended ∙ append_assoc old (placeholder A combine ∷ []) (flat A inner.row) in
+      let none : length (flat A inner.row) ≡ 0 = omega (arith, alone, ap length regrouped, length-append old (placeholder A combine ∷ flat A inner.row)) in
+      let begins : take (length old) mid ≡ old = ap (take (length old)) regrouped ∙ take_at old (placeholder A combine ∷ flat A inner.row) _ refl in
+      record {
+        row = no_branches;
+        appended = is ∙ begins ∙ sym (append-nil old);
+        meant = λ q met fits a g. sym (ap (with_verdict a g) (by_target q met fits none (target_holds q met target) refl) ∙ left_out a g);
+      }
+    where
+      by_target : (q : Question) (met : List (List ℕ)) → Fits known q → length (flat A inner.row) ≡ 0 → (b : Bool) → target_holds q met target ≡ b → part_verdict q met n (node_part q met node) ≡ not_applicable
+      by_target q met fits none true holds =
+          sym (kept q met (sym holds)) ∙ ap (settled_verdict combine) (sym (inner.meant q met fits combine) ∙ nothing-below q met combine nothing_gathered inner.row none) ∙ silent combine quiet
+      by_target q met fits none false other = dropped q met (sym other)
+
+  -- either of the two
+  pub node-kept : (n : ℕ) (node : NodeData) (combine : Algorithm) (target left : List (List (List Match))) (parts : Question → List (List ℕ) → List (Decision × List Placed)) (old mid new : List (PlanNode A)) →
+      ((q : Question) (met : List (List ℕ)) → true ≡ target_holds q met target → settled_verdict combine (gathered_of q met combine n (parts q met)) ≡ part_verdict q met n (node_part q met node)) →
+      ((q : Question) (met : List (List ℕ)) → false ≡ target_holds q met target → part_verdict q met n (node_part q met node) ≡ not_applicable) →
+      ((q : Question) (met : List (List ℕ)) → Fits known q → target_holds q met target ≡ target_holds q met left) →
+      Appends A known (λ q met. AllStandFor q met n (parts q met)) (old ++ placeholder A combine ∷ []) mid → new ≡ node_closed A (length old) combine left mid →
+      Appends A known (λ q met. StandsFor q met n (node_part q met node)) old new
+  node-kept n node combine target left parts old mid new kept dropped same inner is = by_size (is_silent combine) refl (length mid - length old - 1 == 0) refl is
+    where
+      by_size : (s : Bool) → is_silent combine ≡ s → (z : Bool) → (length mid - length old - 1 == 0) ≡ z →
+          new ≡ (if s && z then take (length old) mid else slice_set mid (length old) (plan_nodes.Node combine left (length mid - length old - 1))) →
+          Appends A known (λ q met. StandsFor q met n (node_part q met node)) old new
+      by_size true quiet true alone is = node-out n node combine target parts old mid new kept dropped inner quiet ((Decides-eqb _ _).0 alone) is
+      by_size true quiet false more is = node-in n node combine target left parts old mid new kept dropped same inner is
+      by_size false loud z e is = node-in n node combine target left parts old mid new kept dropped same inner is
 
   abbrev pub NeverHolds : List (List (List Match)) → Type 0
   NeverHolds target = (q : Question) (met : List (List ℕ)) → Fits known q → target_holds q met target ≡ false

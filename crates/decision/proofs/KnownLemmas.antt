@@ -10,11 +10,11 @@ use Rattle.policy_documents.specs.declared.matches.Term.TheVariants as terms
 use Rattle.policy_documents.specs.declared.matches.Atom.{Atom}
 use Rattle.policy_documents.specs.declared.matches.Atom.TheVariants as atoms
 use Rattle.combining.specs.declared.questions.Question.{Question}
-use Rattle.combining.specs.Holding.{match_holds, atom_holds}
+use Rattle.combining.specs.Holding.{match_holds, term_holds, atom_holds}
 use Rattle.decision.specs.declared.known.Known.{Known}
-use Rattle.decision.specs.declared.known.Known.TheVariants.{Nothing, Asked}
-use Rattle.decision.specs.Known.{Fits, Test, told_match, told_atom}
-use Rattle.decision.proofs.TestLemmas.{all-more, any-more, all-fails, any-holds, all-push, any-push}
+use Rattle.decision.specs.declared.known.Known.TheVariants.{Nothing, Asked, Feature}
+use Rattle.decision.specs.Known.{Fits, Test, told_match, told_own, told_atom}
+use Rattle.combining.proofs.TestLemmas.{all-more, any-more, all-fails, any-holds, all-push, any-push}
 
 the_same : (a b c : Bool) → a ≡ c → Some c ≡ Some b → a ≡ b
 the_same a b c e f = let g : c ≡ b = cc in e ∙ g
@@ -27,6 +27,18 @@ told-match (Asked subject action) (matches.Class name) b e q met fits = absurd c
 told-match (Asked subject action) (matches.Owner name) b e q met fits = absurd cc
 told-match (Asked subject action) (matches.Zone name) b e q met fits = absurd cc
 told-match (Asked subject action) (matches.Action wanted) b e q met fits = the_same _ b (same_action action wanted) (ap (λ a. same_action a wanted) fits.1) e
+told-match (Feature at owner class) (matches.Role name) b e q met fits = the_same _ b (same_name at.role name) (ap (λ r. same_name r name) fits.0.role) e
+told-match (Feature at owner class) (matches.Office name) b e q met fits = the_same _ b (same_name at.office name) (ap (λ o. same_name o name) fits.0.office) e
+told-match (Feature at owner class) (matches.Class name) b e q met fits = the_same _ b (same_name class name) (ap (λ c. same_name c name) fits.2) e
+told-match (Feature at owner class) (matches.Owner name) b e q met fits = the_same _ b (same_name owner name) (ap (λ o. same_name o name) fits.1) e
+told-match (Feature at owner class) (matches.Zone name) b e q met fits = absurd cc
+told-match (Feature at owner class) (matches.Action wanted) b e q met fits = the_same _ b (same_action at.action wanted) (ap (λ a. same_action a wanted) fits.0.action) e
+
+told-own : (known : Known) (b : Bool) → told_own known ≡ Some b → (q : Question) (met : List (List ℕ)) → Fits known q → term_holds q met terms.Own ≡ b
+told-own Nothing b e q met fits = absurd cc
+told-own (Asked subject action) b e q met fits = absurd cc
+told-own (Feature at owner class) b e q met fits =
+    the_same _ b (same_name owner at.office) ((λ i. same_name (fits.1 i) (fits.0.office i))) e
 
 negated : (o : Option Bool) (b : Bool) → option_map not o ≡ Some b → o ≡ Some (not b)
 negated None b e = absurd cc
@@ -42,8 +54,8 @@ not_not false = refl
 pub told-atom : (known : Known) (atom : Atom) (b : Bool) → told_atom known atom ≡ Some b → (q : Question) (met : List (List ℕ)) → Fits known q → atom_holds q met atom ≡ b
 told-atom known (atoms.Is (terms.Match m)) b e q met fits = told-match known m b e q met fits
 told-atom known (atoms.Not (terms.Match m)) b e q met fits = ap not (told-match known m (not b) (negated (told_match known m) b e) q met fits) ∙ not_not b
-told-atom known (atoms.Is terms.Own) b e q met fits = absurd cc
-told-atom known (atoms.Not terms.Own) b e q met fits = absurd cc
+told-atom known (atoms.Is terms.Own) b e q met fits = told-own known b e q met fits
+told-atom known (atoms.Not terms.Own) b e q met fits = ap not (told-own known (not b) (negated (told_own known) b e) q met fits) ∙ not_not b
 
 and_true : (b : Bool) → (b && true) ≡ b
 and_true true = refl

@@ -1,5 +1,4 @@
 pub mod RulingLemmas
-pub mod TestLemmas
 pub mod FinishLemmas
 pub mod RunLemmas
 pub mod CompileLemmas

@@ -1,8 +1,9 @@
 -- What is appended for the parts of a document while it is compiled. Only contracts of private
 -- functions use it.
-use Rattle.std.specs.Prelude.{◌≡◌, ℕ, ◌-◌, List, [], ◌++◌, length}
+use Rattle.std.specs.Prelude.{◌≡◌, ◌==◌, ℕ, ◌-◌, Bool, true, false, ◌&&◌, List, [], ◌++◌, length, take, if◌then◌else◌}
 use Rattle.std.specs.Prelude.{slice_set}
 use Rattle.policy_documents.specs.declared.algorithms.Algorithm.{Algorithm}
+use Rattle.policy_documents.specs.declared.algorithms.Algorithm.TheVariants.{DenyOverrides, PermitOverrides, DenyUnlessPermit, PermitUnlessDeny, FirstApplicable}
 use Rattle.policy_documents.specs.declared.matches.Match.{Match}
 use Rattle.combining.specs.declared.questions.Question.{Question}
 use Rattle.combining.specs.declared.decisions.Decision.{Decision}
@@ -37,8 +38,18 @@ module _ (q : Question) (met : List (List ℕ)) where
 abbrev pub placeholder : (A : Type 0) → Algorithm → PlanNode A
 placeholder A combine = plan_nodes.Node combine [] 0
 
--- the list with its placeholder replaced by a node that has all steps after it below it
+-- an algorithm by which a set or a policy with nothing below it is not applicable
+abbrev pub is_silent : Algorithm → Bool
+is_silent DenyOverrides = true
+is_silent PermitOverrides = true
+is_silent DenyUnlessPermit = false
+is_silent PermitUnlessDeny = false
+is_silent FirstApplicable = true
+
+-- the list with its placeholder replaced by a node that has all steps after it below it; without
+-- the placeholder, where nothing is below it and the node would never be applicable
 abbrev pub node_closed : (A : Type 0) → ℕ → Algorithm → List (List (List Match)) → List (PlanNode A)
     → List (PlanNode A)
 node_closed A place combine target list =
-    slice_set list place (plan_nodes.Node combine target (length list - place - 1))
+    if is_silent combine && length list - place - 1 == 0 then take place list
+    else slice_set list place (plan_nodes.Node combine target (length list - place - 1))

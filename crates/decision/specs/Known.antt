@@ -7,18 +7,29 @@ use Rattle.policy_documents.specs.declared.matches.Match.TheVariants as matches
 use Rattle.policy_documents.specs.declared.matches.Term.TheVariants as terms
 use Rattle.policy_documents.specs.declared.matches.Atom.TheVariants as atoms
 use Rattle.features.specs.Equality.{same_name}
+use Rattle.features.specs.declared.actors.Action.{Action}
+use Rattle.features.specs.declared.actors.Subject.{Subject}
 use Rattle.policy_documents.specs.Equality.{same_action}
 use Rattle.combining.specs.declared.questions.Question.{Question}
 use Rattle.decision.specs.declared.known.Known.{Known}
-use Rattle.decision.specs.declared.known.Known.TheVariants.{Nothing, Asked}
+use Rattle.decision.specs.declared.known.Known.TheVariants.{Nothing, Asked, Feature}
+use Rattle.decision.specs.declared.known.Standpoint.{Standpoint}
 use Rattle.decision.specs.declared.known.Kept.{Kept}
 use Rattle.decision.specs.declared.known.Kept.TheVariants.{Always, Never, Asks}
 use Rattle.combining.specs.Holding.{match_holds, atom_holds}
+
+-- a subject who asks for this has this standpoint
+pub record StandsBy (at : Standpoint) (who : Subject) (asked : Action) : Type 0 where
+  pub office : who.office ≡ at.office
+  pub role : who.role ≡ at.role
+  pub action : asked ≡ at.action
 
 -- what is known is true of this question
 abbrev pub Fits : Known → Question → Type 0
 Fits Nothing q = Unit {0}
 Fits (Asked subject action) q = (q.subject ≡ subject) × (q.action ≡ action)
+Fits (Feature standpoint owner class) q =
+    StandsBy standpoint q.subject q.action × (q.owner ≡ owner) × (q.class ≡ class)
 
 -- whether a match holds, if that is known: role and office are the subject's
 abbrev pub told_match : Known → Match → Option Bool
@@ -29,13 +40,25 @@ told_match (Asked subject action) (matches.Class name) = None
 told_match (Asked subject action) (matches.Owner name) = None
 told_match (Asked subject action) (matches.Zone name) = None
 told_match (Asked subject action) (matches.Action wanted) = Some (same_action action wanted)
+told_match (Feature at owner class) (matches.Role name) = Some (same_name at.role name)
+told_match (Feature at owner class) (matches.Office name) = Some (same_name at.office name)
+told_match (Feature at owner class) (matches.Class name) = Some (same_name class name)
+told_match (Feature at owner class) (matches.Owner name) = Some (same_name owner name)
+told_match (Feature at owner class) (matches.Zone name) = None
+told_match (Feature at owner class) (matches.Action wanted) = Some (same_action at.action wanted)
 
--- the same of a condition; whether a feature is the subject's own is never known in advance
+-- whether the feature is of the subject's own office, if that is known
+abbrev pub told_own : Known → Option Bool
+told_own Nothing = None
+told_own (Asked subject action) = None
+told_own (Feature at owner class) = Some (same_name owner at.office)
+
+-- the same of a condition
 abbrev pub told_atom : Known → Atom → Option Bool
 told_atom known (atoms.Is (terms.Match m)) = told_match known m
 told_atom known (atoms.Not (terms.Match m)) = option_map not (told_match known m)
-told_atom known (atoms.Is terms.Own) = None
-told_atom known (atoms.Not terms.Own) = None
+told_atom known (atoms.Is terms.Own) = told_own known
+told_atom known (atoms.Not terms.Own) = option_map not (told_own known)
 
 -- a test of something, for a question whose shape meets the zones of these names
 abbrev pub Test : Type 0 → Type 0

@@ -5,3 +5,5 @@ pub mod Known
 pub mod Plans
 pub mod Compiled
 pub mod Folding
+pub mod Rests
+pub mod InForce

@@ -4,7 +4,7 @@ ghost use Rattle.std.specs.Prelude.{◌≡◌, ℕ, ◌+◌, ◌<◌, ◌≤◌,
 ghost use Rattle.combining.specs.Deciding.{rule_part};
 ghost use Rattle.combining.specs.Gathering.{node_part, last_number};
 ghost use Rattle.decision.specs.Plans.{Branches, flat};
-ghost use Rattle.decision.specs.Compiled.{Appends, StandsFor, AllStandFor, placeholder, node_closed};
+ghost use Rattle.decision.specs.Compiled.{Appends, StandsFor, AllStandFor, is_silent, placeholder, node_closed};
 ghost use Rattle.policy_documents.specs.Documents.{set, policy, rules_of, rules_of_all, children_of};
 ghost use Rattle.policy_documents.specs.Views.{node_view};
 
@@ -84,7 +84,18 @@ fn open_node<B: Allocator + Copy>(
     Ok(place)
 }
 
-/// Replaces the placeholder at `place` by a set or a policy that has all steps after it below it.
+/// Whether a set or a policy with nothing below it is not applicable by this algorithm.
+fn is_silent(combine: Algorithm) -> bool
+    ensures { result ≡ is_silent combine }
+{
+    match combine {
+        Algorithm::DenyOverrides | Algorithm::PermitOverrides | Algorithm::FirstApplicable => true,
+        Algorithm::DenyUnlessPermit | Algorithm::PermitUnlessDeny => false,
+    }
+}
+
+/// Replaces the placeholder at `place` by a set or a policy that has all steps after it below it, or
+/// takes it away, where nothing is below it and the node would never be applicable.
 fn close_node<B: Allocator + Copy>(
     steps: &mut Vec<PlanNode<B>, B>,
     place: usize,
@@ -95,6 +106,10 @@ fn close_node<B: Allocator + Copy>(
     ensures { steps.new.items ≡ node_closed B place combine target steps.old.items }
 {
     let below = steps.len() - place - 1;
+    if is_silent(combine) && below == 0 {
+        steps.truncate(place);
+        return;
+    }
     steps[place] = PlanNode::Node {
         combine,
         target,

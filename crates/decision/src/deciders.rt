@@ -41,7 +41,7 @@ impl Model for Decider {
 }
 
 /// The allocator of a document's root.
-fn heap_of(document: &Document<Global>) -> Global {
+pub(crate) fn heap_of(document: &Document<Global>) -> Global {
     match document.root() {
         Node::Set { of, .. } => *of.allocator(),
         Node::Policy { rules, .. } => *rules.allocator(),
@@ -105,6 +105,11 @@ impl Decider {
         };
         let plan = Plan::new(heap_of(&self.document), &known, &self.document)?;
         Ok(Folded::new(self, *subject, *action, plan))
+    }
+
+    /// How many rules, policies and sets the compiled document has.
+    pub(crate) fn steps(&self) -> usize {
+        self.plan.len()
     }
 
     /// The name of the document's rule with this number, counted from 1 in document order.

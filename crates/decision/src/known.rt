@@ -1,10 +1,11 @@
-//! Reduces tests by what is known of a question in advance: its subject and action, or nothing.
+//! Reduces tests by what is known of a question in advance: nothing, its subject and action, or all
+//! but its shape.
 
 ghost use Rattle.std.specs.Prelude.{◌≡◌, IfOk};
 ghost use Rattle.combining.specs.Holding.{target_holds};
-ghost use Rattle.decision.specs.Known.{told_match, told_atom, all_hold, some_hold, conditions_hold, KeepsTest, LeavesTest};
+ghost use Rattle.decision.specs.Known.{told_match, told_own, told_atom, all_hold, some_hold, conditions_hold, KeepsTest, LeavesTest};
 
-use features::{Action, Subject};
+use features::{Action, Name, Subject};
 use memory::{GrowVec, NoMemory};
 use policy_documents::{AllOf, AnyOf, Atom, Conditions, Match, Target, Term};
 use std::alloc::Allocator;
@@ -13,7 +14,24 @@ use std::alloc::Allocator;
 #[derive(Clone, Copy)]
 pub(crate) enum Known {
     Nothing,
-    Asked { subject: Subject, action: Action },
+    Asked {
+        subject: Subject,
+        action: Action,
+    },
+    /// All but the shape: who asks for what, and the feature's office and class.
+    Feature {
+        standpoint: Standpoint,
+        owner: Name,
+        class: Name,
+    },
+}
+
+/// What policies can tell of who asks, and for what. Subjects of one office and one role are alike.
+#[derive(Clone, Copy, Debug)]
+pub(crate) struct Standpoint {
+    pub office: Name,
+    pub role: Name,
+    pub action: Action,
 }
 
 /// A test, reduced by what is known.
@@ -39,11 +57,36 @@ fn known_match(known: &Known, test: &Match) -> Option<bool>
             Match::Action(wanted) => Some(*action == *wanted),
             Match::Class(_) | Match::Owner(_) | Match::Zone(_) => None,
         },
+        Known::Feature {
+            standpoint,
+            owner,
+            class,
+        } => match test {
+            Match::Role(name) => Some(standpoint.role == *name),
+            Match::Office(name) => Some(standpoint.office == *name),
+            Match::Action(wanted) => Some(standpoint.action == *wanted),
+            Match::Class(name) => Some(*class == *name),
+            Match::Owner(name) => Some(*owner == *name),
+            Match::Zone(_) => None,
+        },
     }
 }
 
-/// Whether a condition holds; `None` if that is not known yet. Whether a feature is the subject's
-/// own is never known in advance.
+/// Whether the feature is of the subject's own office; `None` if that is not known yet.
+fn known_own(known: &Known) -> Option<bool>
+    ensures { result ≡ told_own known.now }
+{
+    match known {
+        Known::Nothing | Known::Asked { .. } => None,
+        Known::Feature {
+            standpoint,
+            owner,
+            ..
+        } => Some(*owner == standpoint.office),
+    }
+}
+
+/// Whether a condition holds; `None` if that is not known yet.
 fn known_atom(known: &Known, atom: &Atom) -> Option<bool>
     ensures { result ≡ told_atom known.now atom.now }
 {
@@ -53,7 +96,11 @@ fn known_atom(known: &Known, atom: &Atom) -> Option<bool>
             Some(holds) => Some(!holds),
             None => None,
         },
-        Atom::Is(Term::Own) | Atom::Not(Term::Own) => None,
+        Atom::Is(Term::Own) => known_own(known),
+        Atom::Not(Term::Own) => match known_own(known) {
+            Some(holds) => Some(!holds),
+            None => None,
+        },
     }
 }
 

@@ -51,6 +51,11 @@ impl<A: Allocator + Copy> Plan<A> {
 }
 
 impl<A: Allocator> Plan<A> {
+    /// How many steps the plan has.
+    pub fn len(&self) -> usize {
+        self.steps.len()
+    }
+
     /// What `document` decides; this has to be its plan. Allocates nothing.
     pub fn verdict<D: Allocator>(&self, document: &Document<D>, question: &Question) -> Verdict
         requires { Decides A self.now document.now.root question.now }

@@ -8,7 +8,7 @@ ghost use Rattle.judging.specs.Judging.{question_on_new, stale, DenialOf, Object
 
 use crate::causes::{Cause, Judgement, Objection, Refusal};
 use combining::Question;
-use decision::{Decider, Ruling};
+use decision::{InForce, Ruling};
 use feature_store::{Meter, Store};
 use features::{Action, Change, Feature, Name, Subject};
 use plane::Shape;
@@ -17,7 +17,7 @@ use std::alloc::Allocator;
 /// Judges a list of changes: `Accepted`, or `Refused` for the first change that fails, with its
 /// first cause. Each change is judged on the store as it is before the list. Allocates nothing.
 pub fn judge<A: Allocator>(
-    decider: &Decider,
+    decider: &InForce,
     store: &Store<A>,
     subject: &Subject,
     changes: &[Change],
@@ -41,7 +41,7 @@ pub fn judge<A: Allocator>(
 
 /// The first objection to a change.
 fn objection_to<A: Allocator>(
-    decider: &Decider,
+    decider: &InForce,
     store: &Store<A>,
     subject: &Subject,
     change: &Change,
@@ -58,7 +58,7 @@ fn objection_to<A: Allocator>(
 
 /// The first objection to a change of an id that no feature has.
 fn objection_where_absent(
-    decider: &Decider,
+    decider: &InForce,
     subject: &Subject,
     change: &Change,
 ) -> Option<Objection>
@@ -76,7 +76,7 @@ fn objection_where_absent(
 
 /// The first objection to a change of this feature's id.
 fn objection_where_present(
-    decider: &Decider,
+    decider: &InForce,
     subject: &Subject,
     change: &Change,
     feature: &Feature,
@@ -128,7 +128,7 @@ fn question_on(subject: &Subject, action: Action, feature: &Feature, shape: &Sha
 }
 
 /// The objection to a change if the decider denies this question.
-fn denial(decider: &Decider, question: &Question) -> Option<Objection>
+fn denial(decider: &InForce, question: &Question) -> Option<Objection>
     ensures { DenialOf decider.now.document question.now result }
 {
     let rule = match decider.decide(question) {

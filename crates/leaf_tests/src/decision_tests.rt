@@ -1,11 +1,12 @@
 //! Random documents: compiled, and folded, each rules as `evaluate` does.
 use combining::{Decision, Question, Verdict, evaluate};
-use decision::{Decider, Folded, Ruling};
+use decision::{Decider, Folded, InForce, Ruling};
 use features::{Action, Name, Subject};
 use plane::{Point, Shape};
 use policy_text::{Document, read_document};
 use std::alloc::{AllocError, Global};
 use std::process::Abort;
+use std::sync::Arc;
 use std::test::Fail;
 
 /// How many documents are generated.
@@ -319,6 +320,25 @@ fn assert_alike(
     assert_eq!(rt; told, wanted, "{text}");
 }
 
+/// Asserts that what is kept of the decider in force rules as its document does, on each kind of features,
+/// whether it is kept or not.
+fn assert_kept(rt: &impl Abort, in_force: &InForce, question: &Question, text: &str) {
+    let mut reading = in_force.reading(&question.subject, &question.action);
+    for owner in ["north", "south"] {
+        for class in ["mast", "road"] {
+            let mut asked = *question;
+            asked.owner = name(rt, owner);
+            asked.class = name(rt, class);
+            let wanted = ruling(evaluate(in_force.shared().document(), &asked));
+            let told = match reading.decide(asked.owner, asked.class, asked.shape) {
+                Ok(told) => told,
+                Err(_) => panic!(rt; "no memory"),
+            };
+            assert_eq!(rt; told, wanted, "{text}");
+        }
+    }
+}
+
 /// Folds a decider for one subject and one action, and asks questions with these.
 fn ask(rt: &impl Abort, dice: &mut Dice, decider: &Decider, text: &str) {
     let first = question(rt, dice);
@@ -341,5 +361,62 @@ fn deciders_rule_as_documents(rt: HostRuntime) -> Result<(), Fail> {
             ask(&rt, &mut dice, &decider, &text);
         }
     }
+    Ok(())
+}
+
+/// Some kinds of features are told, and rests are kept of some of them, for some subjects.
+fn prepare_some(rt: &impl Abort, dice: &mut Dice, in_force: &mut InForce) {
+    for _ in 0..dice.below(6) {
+        let owner = name(rt, dice.either("north", "south"));
+        in_force.tell(owner, name(rt, dice.either("mast", "road")));
+        let question = question(rt, dice);
+        let most = dice.below(3) as usize;
+        in_force.prepare(&question.subject, &question.action, most);
+    }
+}
+
+#[test]
+fn what_is_kept_rules_as_documents(rt: HostRuntime) -> Result<(), Fail> {
+    let mut dice = Dice { state: 20_261_129 };
+    let text = document_text(rt.alloc(), &mut dice)?;
+    let first = Arc::new(rt.alloc(), decider(&rt, rt.alloc(), &text))?;
+    let mut in_force = InForce::new(first);
+    for _ in 0..DOCUMENTS {
+        // The kinds of features stay from one document to the next.
+        let text = document_text(rt.alloc(), &mut dice)?;
+        in_force.replace(Arc::new(rt.alloc(), decider(&rt, rt.alloc(), &text))?);
+        for _ in 0..FOLDS {
+            prepare_some(&rt, &mut dice, &mut in_force);
+            assert_kept(&rt, &in_force, &question(&rt, &mut dice), &text);
+        }
+    }
+    Ok(())
+}
+
+#[test]
+fn more_kinds_than_are_kept(rt: HostRuntime) -> Result<(), Fail> {
+    let text = r#"{"root":{"policy":"p","combine":"first-applicable","rules":[
+        {"rule":"masts","effect":"deny","target":[[[{"class":"mast"}]]]},
+        {"rule":"a","effect":"deny","target":[[[{"class":"a"}]]]},{"rule":"b","effect":"deny","target":[[[{"class":"b"}]]]},
+        {"rule":"c","effect":"deny","target":[[[{"class":"c"}]]]},{"rule":"d","effect":"deny","target":[[[{"class":"d"}]]]},
+        {"rule":"e","effect":"deny","target":[[[{"class":"e"}]]]},{"rule":"f","effect":"deny","target":[[[{"class":"f"}]]]},
+        {"rule":"g","effect":"deny","target":[[[{"class":"g"}]]]},{"rule":"all","effect":"permit"}]}}"#;
+    let mut in_force = InForce::new(Arc::new(rt.alloc(), decider(&rt, rt.alloc(), text))?);
+    let mut dice = Dice { state: 7 };
+    let question = question(&rt, &mut dice);
+    for number in 0..300_u32 {
+        let class = format!(in rt.alloc(); "class-{number}")?;
+        in_force.tell(name(&rt, "north"), name(&rt, &class));
+    }
+    in_force.tell(name(&rt, "north"), name(&rt, "mast"));
+    in_force.prepare(&question.subject, &Action::Read, 1_000);
+    let mut reading = in_force.reading(&question.subject, &Action::Read);
+    for number in 0..300_u32 {
+        let class = format!(in rt.alloc(); "class-{number}")?;
+        let told = reading.decide(name(&rt, "north"), name(&rt, &class), question.shape);
+        assert!(rt; matches!(told, Ok(Ruling::Permit(Some(9)))), "{class}");
+    }
+    let told = reading.decide(name(&rt, "north"), name(&rt, "mast"), question.shape);
+    assert!(rt; matches!(told, Ok(Ruling::DeniedBy(1))));
     Ok(())
 }

@@ -14,7 +14,7 @@ use Rattle.features.proofs.rows.Feature.TheSendSync as feature
 use Rattle.feature_store.proofs.stores.Store.TheSendSync as store
 use Rattle.policy_documents.proofs.CrossingLemmas.{◌&◌, u32_send, u64_send, u64_sync, model_send, model_sync}
 use Rattle.combining.proofs.questions.Question.TheSendSync as question
-use Rattle.decision.proofs.CrossingLemmas.{shared_decider_send, shared_decider_sync}
+use Rattle.decision.proofs.CrossingLemmas.{shared_decider_send, shared_decider_sync, in_force_send, in_force_sync}
 use Rattle.judging.proofs.causes.Refusal.TheSendSync as refusal
 use Rattle.audit_trail.proofs.CrossingLemmas.{trail_send, trail_sync}
 use Rattle.plain_world.proofs.open_searches.Searches.TheSendSync as searches
@@ -79,7 +79,7 @@ module _ (A : RattleType) (g : Ghosts A.Denot) (s : IsSend A) (y : IsSync A) (f 
       let running = searches.the_send A g s f in
       let open_ones = vec.the_send _ A g (transaction.the_send A g s f) s f in
       let under_way = running & u64_send & open_ones & u64_send & tt in
-      let standing = base & trail & features & u64_send & shared_decider_send & under_way in
+      let standing = base & trail & features & u64_send & in_force_send & under_way in
       let given = starts.the_field_send & limits.the_field_send & seats & standing in
       -- by its fields, in their order
       model_send (world_inside.the_type A g) (s & subjects.the_send & shared_decider_send & given)
@@ -93,6 +93,6 @@ module _ (A : RattleType) (g : Ghosts A.Denot) (s : IsSend A) (y : IsSync A) (f 
       let running = searches.the_sync A g y in
       let open_ones = vec.the_sync _ A g (transaction.the_sync A g y) y in
       let under_way = running & u64_sync & open_ones & u64_sync & tt in
-      let standing = base & trail & features & u64_sync & shared_decider_sync & under_way in
+      let standing = base & trail & features & u64_sync & in_force_sync & under_way in
       let given = starts.the_field_sync & limits.the_field_sync & seats & standing in
       model_sync (world_inside.the_type A g) (y & subjects.the_sync & shared_decider_sync & given)

@@ -1,5 +1,5 @@
 -- Features that rise by id, put into a store one by one.
-use Rattle.std.proofs.Common.{◌≡◌, ◌≢◌, ℕ, ◌+◌, ◌<◌, ◌≤◌, ◌==◌, nat_lt, Bool, true, false, zero, suc, List, [], ◌∷◌, take, length, slice_get, Option, Some, None, if◌then◌else◌, refl, sym, ap, subst, ◌∙◌, arith}
+use Rattle.std.proofs.Common.{◌≡◌, ℕ, ◌<◌, ◌==◌, nat_lt, false, zero, suc, List, [], ◌∷◌, take, slice_get, Some, None, refl, sym, ap, subst, arith}
 use Rattle.std.proofs.lemmas.Bool.Decides.{nat_tests}
 use Rattle.features.specs.declared.rows.Feature.{Feature}
 use Rattle.features.specs.Rows.{IsBelowAll, IsSortedById, feature_with, with_row}

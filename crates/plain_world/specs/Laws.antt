@@ -15,7 +15,7 @@ use Rattle.judging.specs.declared.causes.Judgement.TheVariants as judgements
 use Rattle.judging.specs.Judging.{Judged, AreDistinct}
 use Rattle.audit_trail.specs.Legal.{IsSeated, after_deed, IsLegal, replay}
 use Rattle.judging.specs.Listing.{Listed}
-use Rattle.audit_trail.specs.Records.{DeedData, answered, applied, turned_away, governed, RecordData}
+use Rattle.audit_trail.specs.Records.{DeedData, applied, turned_away, governed, RecordData}
 use Rattle.judging.specs.States.{PlainState}
 use Rattle.combining.specs.declared.questions.Question.{Question}
 use Rattle.plain_world.specs.declared.faults.Fault.{Fault}

@@ -194,7 +194,7 @@ impl<A: Allocator> PlainWorld<A> {
         ensures value { result ≡ edition_left self.now }
         ensures left { OnOk result (self.now.state.decider.edition < u64.MAX) }
     {
-        if self.decider.edition() == u64::MAX {
+        if self.in_force.shared().edition() == u64::MAX {
             return Err(Fault::Spent);
         }
         Ok(())

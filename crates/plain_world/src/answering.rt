@@ -14,6 +14,7 @@ use crate::listing::{answered, put_in_order};
 use crate::worlds::PlainWorld;
 use audit_trail::Record;
 use feature_store::Meter;
+use features::Action;
 use plane::Shape;
 use std::alloc::Allocator;
 use std::sync::Arc;
@@ -53,6 +54,18 @@ impl<A: Allocator + Copy> PlainWorld<A> {
     /// trail, which is the event of a whole search. X10 where the trail is full, X12 where an
     /// allocation is refused; the record is then returned, and nothing has changed.
     pub fn take_in(&mut self, entry: Arc<Record<A>, A>) -> Result<(), (Arc<Record<A>, A>, Fault)>
+        requires { IsLegalAnswer self.old.seats self.old.state (arc_value entry) }
+        ensures ok { OnOk result (TakesIn (arc_value entry) self.old self.new) }
+        ensures err { OnErr result (self.new ≡ self.old) }
+        ensures entry_returned { IfErr result (λ e. e.0 ≡ entry) }
+        ensures fault { IfErr result (λ e. FaultsAs (may_record self.old) e.1) }
+    {
+        self.prepare_for(entry.seat(), Action::Read);
+        self.put_down(entry)
+    }
+
+    /// Puts the record of an answer at the end of the trail, as `take_in` does.
+    fn put_down(&mut self, entry: Arc<Record<A>, A>) -> Result<(), (Arc<Record<A>, A>, Fault)>
         requires { IsLegalAnswer self.old.seats self.old.state (arc_value entry) }
         ensures ok { OnOk result (TakesIn (arc_value entry) self.old self.new) }
         ensures err { OnErr result (self.new ≡ self.old) }

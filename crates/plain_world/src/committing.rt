@@ -22,7 +22,8 @@ use crate::settings::CHANGE_LIMIT;
 use crate::worlds::PlainWorld;
 use audit_trail::{Deed, Record};
 use combining::Question;
-use features::{Change, Subject};
+use decision::InForce;
+use features::{Action, Change, Name, Subject};
 use judging::{Judgement, Refusal, judge};
 use memory::{GrowVec, copied};
 use std::alloc::Allocator;
@@ -85,14 +86,45 @@ impl<A: Allocator + Copy> PlainWorld<A> {
     pub fn commit(&mut self, seat: u32, number: u64) -> Result<Outcome, Fault>
         ensures { Happens (Commit seat number) self.old self.new (reply_of Ended result) }
     {
+        self.prepare_changes(seat, number);
+        self.commit_list(seat, number)
+    }
+
+    /// Keeps what the policy in force says of some kinds of features to a list like this one.
+    fn prepare_changes(&mut self, seat: u32, number: u64)
+        ensures { self.new ≡ self.old }
+    {
+        let action = match staged_in(&self.transactions, number).first() {
+            Some(Change::Add { .. }) => Action::Add,
+            Some(Change::Reshape { .. }) => Action::Reshape,
+            Some(Change::Delete { .. }) => Action::Delete,
+            None => return,
+        };
+        self.prepare_for(seat, action);
+    }
+
+    /// Commits a list, as `commit` does.
+    fn commit_list(&mut self, seat: u32, number: u64) -> Result<Outcome, Fault>
+        ensures { Happens (Commit seat number) self.old self.new (reply_of Ended result) }
+    {
         let subject = self.may_commit(seat, number)?;
         let changes = copied(self.alloc, staged_in(&self.transactions, number))?;
-        match judge(&self.decider, &self.store, &subject, changes.as_slice()) {
-            Judgement::Accepted => self.apply(seat, number, subject, changes),
+        match judge(&self.in_force, &self.store, &subject, changes.as_slice()) {
+            Judgement::Accepted => {
+                self.tell_kinds(subject.office, changes.as_slice());
+                self.apply(seat, number, subject, changes)
+            }
             Judgement::Refused(refusal, question) => {
                 self.turn_away(seat, number, subject, changes, &refusal, &question)
             }
         }
+    }
+
+    /// Tells the policy in force of the kinds of features that a list adds.
+    fn tell_kinds(&mut self, office: Name, changes: &[Change])
+        ensures { self.new ≡ self.old }
+    {
+        tell_added(&mut self.in_force, office, changes);
     }
 
     /// Records a rejected list, and ends its transaction.
@@ -118,7 +150,7 @@ impl<A: Allocator + Copy> PlainWorld<A> {
     {
         let told = turned_away(seat, subject, changes, refusal);
         let entry = self.trail.prepare(told)?;
-        let denial = denial_for(&self.decider, &refusal.cause, question)?;
+        let denial = denial_for(self.in_force.shared(), &refusal.cause, question)?;
         self.trail.put(entry);
         end(&mut self.transactions, number);
         Ok(Outcome::Refused(*refusal, denial))
@@ -155,6 +187,17 @@ impl<A: Allocator + Copy> PlainWorld<A> {
         self.trail.put(entry);
         end(&mut self.transactions, number);
         Ok(Outcome::Applied(version))
+    }
+}
+
+/// Tells a policy of the kinds of features that a list of this office adds.
+fn tell_added(in_force: &mut InForce, office: Name, changes: &[Change])
+    ensures { in_force.new ≡ in_force.old }
+{
+    for change in changes {
+        if let Change::Add { class, .. } = change {
+            in_force.tell(office, *class);
+        }
     }
 }
 

@@ -26,7 +26,7 @@ impl<A: Allocator> PlainWorld<A> {
         ensures left { OnOk result (self.now.state.decider.edition < u64.MAX) }
     {
         self.may_govern(seat)?;
-        Ok(self.decider.edition() + 1)
+        Ok(self.in_force.shared().edition() + 1)
     }
 }
 
@@ -66,7 +66,7 @@ impl<A: Allocator + Copy> PlainWorld<A> {
         );
         let entry = self.trail.prepare(told)?;
         self.trail.put(entry);
-        self.decider = decider;
+        self.in_force.replace(decider);
         Ok(edition)
     }
 
@@ -81,7 +81,7 @@ impl<A: Allocator + Copy> PlainWorld<A> {
         ensures { Happens (Govern seat document) self.old self.new (reply_of Number result) }
     {
         self.may_govern(seat)?;
-        let decider = made_decider(heap, document, self.decider.edition() + 1)?;
+        let decider = made_decider(heap, document, self.in_force.shared().edition() + 1)?;
         self.put_in_force(seat, decider)
     }
 
@@ -95,7 +95,7 @@ impl<A: Allocator + Copy> PlainWorld<A> {
         ensures { Happens (Govern seat document.now) self.old self.new (reply_of Number result) }
     {
         self.may_govern(seat)?;
-        let decider = copied_decider(heap, document, self.decider.edition() + 1)?;
+        let decider = copied_decider(heap, document, self.in_force.shared().edition() + 1)?;
         self.put_in_force(seat, decider)
     }
 

@@ -10,7 +10,7 @@ ghost use Rattle.plain_world.specs.Finding.{NamesAll};
 
 use crate::answers::Answer;
 use audit_trail::{Deed, Record};
-use decision::{Folded, Ruling};
+use decision::{Reading, Ruling};
 use feature_store::{Meter, Store};
 use features::{Action, Feature};
 use memory::{GrowVec, NoMemory};
@@ -58,17 +58,17 @@ pub(crate) fn put_in_order<A: Allocator>(ids: &mut Vec<u64, A>)
 /// whatever shape the index found.
 pub(crate) fn listed<A: Allocator>(
     alloc: A,
-    folded: &Folded<'_>,
+    reading: &mut Reading<'_>,
     window: &Shape,
     store: &Store<A>,
     ids: &[u64],
     meter: &mut Meter,
 ) -> Result<Vec<Feature, A>, NoMemory>
-    requires reads { folded.now.action ≡ Action.Read }
+    requires reads { reading.old.action ≡ Action.Read }
     requires rise { IsStrictlyIncreasing ids.now }
     requires all { NamesAll store.now window.now ids.now }
     ensures listed { IfOk result
-        (λ rows. IsListed folded.now.decider.document folded.now.subject window.now store.now
+        (λ rows. IsListed reading.old.decider.document reading.old.subject window.now store.now
         rows.items) }
     ensures sorted { IsSortedById store.now }
     ensures metered { meter.new ≤ meter.old + length ids.now }
@@ -79,7 +79,7 @@ pub(crate) fn listed<A: Allocator>(
     let mut rows = Vec::new(alloc);
     for id in ids {
         if let Some(feature) = store.get(*id, meter) {
-            if shows(folded, window, feature) {
+            if shows(reading, window, feature)? {
                 rows.try_push(*feature)?;
             }
         }
@@ -102,26 +102,32 @@ fn fact_ticks_within(meter: &Meter)
     let _ticks = meter.ticks();
 }
 
-/// Whether a feature is shown: its shape meets the window, and the subject may read it.
-fn shows(folded: &Folded<'_>, window: &Shape, feature: &Feature) -> bool
-    requires { folded.now.action ≡ Action.Read }
-    ensures { IsTrue result
-        ↔ IsShown folded.now.decider.document folded.now.subject window.now feature.now }
+/// Whether a feature is shown: its shape meets the window, and the subject may read it. Fails only
+/// where an allocation is refused.
+fn shows(reading: &mut Reading<'_>, window: &Shape, feature: &Feature) -> Result<bool, NoMemory>
+    requires { reading.old.action ≡ Action.Read }
+    ensures shown { IfOk result (λ shown. IsTrue shown
+        ↔ IsShown reading.old.decider.document reading.old.subject window.now feature.now) }
+    ensures same { reading.new ≡ reading.old }
 {
-    meets(&feature.shape, window) && permits(folded, feature)
+    if !meets(&feature.shape, window) {
+        return Ok(false);
+    }
+    permits(reading, feature)
 }
 
-/// Whether the subject may read the feature.
-fn permits(folded: &Folded<'_>, feature: &Feature) -> bool
-    requires { folded.now.action ≡ Action.Read }
-    ensures { IsTrue result
-        ↔ Permits folded.now.decider.document
-        (question_on folded.now.subject Action.Read feature.now feature.now.shape) }
+/// Whether the subject may read the feature. Fails only where an allocation is refused.
+fn permits(reading: &mut Reading<'_>, feature: &Feature) -> Result<bool, NoMemory>
+    requires { reading.old.action ≡ Action.Read }
+    ensures permitted { IfOk result (λ permitted. IsTrue permitted
+        ↔ Permits reading.old.decider.document
+        (question_on reading.old.subject Action.Read feature.now feature.now.shape)) }
+    ensures same { reading.new ≡ reading.old }
 {
-    match folded.decide(feature.office, feature.class, feature.shape) {
-        Ruling::Permit(_) => true,
-        Ruling::DeniedBy(_) => false,
-        Ruling::NoneApplied => false,
+    match reading.decide(feature.office, feature.class, feature.shape)? {
+        Ruling::Permit(_) => Ok(true),
+        Ruling::DeniedBy(_) => Ok(false),
+        Ruling::NoneApplied => Ok(false),
     }
 }
 

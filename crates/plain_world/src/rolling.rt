@@ -135,7 +135,7 @@ impl<A: Allocator + Copy> PlainWorld<A> {
         };
         fact_sorted_by_id(&self.store);
         fact_few(&self.store);
-        let decider = another(&self.decider)?;
+        let decider = another(self.in_force.shared())?;
         Ok(Base {
             features,
             version: self.version,

@@ -19,6 +19,9 @@ use memory::{GrowVec, NoMemory, another};
 use plane::Shape;
 use std::alloc::Allocator;
 
+/// So many kinds of features are prepared for at once.
+const KINDS_AT_ONCE: usize = 16;
+
 impl<A: Allocator> PlainWorld<A> {
     /// Gives a seat to the subject of a name, and returns its number, from 1 to `SEAT_LIMIT`. X13
     /// where there is no such subject, X14 where all seats are given, X12 where an allocation is
@@ -27,10 +30,30 @@ impl<A: Allocator> PlainWorld<A> {
         ensures happens { Happens (TakeSeat name) self.old self.new (reply_of Number result) }
         ensures few { IfOk result (λ number. number ≤ SEAT_LIMIT) }
     {
+        let number = self.take_seat(name)?;
+        self.prepare_for(number, Action::Read);
+        Ok(number)
+    }
+
+    /// Gives a seat, as `seat` does.
+    fn take_seat(&mut self, name: Name) -> Result<u32, Fault>
+        ensures happens { Happens (TakeSeat name) self.old self.new (reply_of Number result) }
+        ensures few { IfOk result (λ number. number ≤ SEAT_LIMIT) }
+    {
         let subject = self.may_sit(name)?;
         self.seats.make_room(1)?;
         self.seats.push_reserved(subject);
         Ok(self.seats.len() as u32)
+    }
+
+    /// Keeps what the policy in force says of some kinds of features to the subject of a seat that
+    /// asks for this, so that it rules at once.
+    pub(crate) fn prepare_for(&mut self, seat: u32, action: Action)
+        ensures { self.new ≡ self.old }
+    {
+        if let Ok(subject) = self.subject_at(seat) {
+            self.in_force.prepare(&subject, &action, KINDS_AT_ONCE);
+        }
     }
 
     /// Drops a search. X1 where the seat was not given or no such search is open, X2 where it is
@@ -56,6 +79,25 @@ impl<A: Allocator + Copy> PlainWorld<A> {
     /// before X12. The body looks up each found id once, a tick each, and the store's first row,
     /// which costs no tick. No contract bounds what it reads beside the ticks.
     pub fn finish(
+        &mut self,
+        seat: u32,
+        number: u64,
+        found: &[(u64, Shape)],
+        meter: &mut Meter,
+    ) -> Result<Answer<A>, Fault>
+        requires found { (s : Search) → search_with number self.old.searches ≡ Some s
+            → IsTrue s.ready → FindsAll self.old.state.features s.window found.now }
+        ensures happens { Happens (Finish seat number) self.old self.new (reply_of Rows result) }
+        ensures metered { meter.new ≤ meter.old + length found.now }
+        ensures raised { meter.old ≤ meter.new }
+        ensures unread { OnErr (may_finish seat number self.old) (meter.new ≡ meter.old) }
+    {
+        self.prepare_for(seat, Action::Read);
+        self.finish_search(seat, number, found, meter)
+    }
+
+    /// Finishes a search, as `finish` does.
+    fn finish_search(
         &mut self,
         seat: u32,
         number: u64,
@@ -123,9 +165,9 @@ impl<A: Allocator + Copy> PlainWorld<A> {
         ensures metered { meter.new ≤ meter.old + length ids.now }
         ensures raised { meter.old ≤ meter.new }
     {
-        let folded = self.decider.fold(&subject, &Action::Read)?;
-        let rows = listed(self.alloc, &folded, &window, &self.store, ids, meter)?;
-        let decider = another(&self.decider)?;
+        let mut reading = self.in_force.reading(&subject, &Action::Read);
+        let rows = listed(self.alloc, &mut reading, &window, &self.store, ids, meter)?;
+        let decider = another(self.in_force.shared())?;
         Ok(Answer::new(subject, window, decider, rows))
     }
 }

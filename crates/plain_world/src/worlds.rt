@@ -14,7 +14,7 @@ use crate::open_searches::Searches;
 use crate::open_transactions::{Transaction, staged_in};
 use crate::settings::{CHANGE_LIMIT, Limits, ROLLED_LIMIT, SEAT_LIMIT, STEP_LIMIT, Starts};
 use audit_trail::{RECORD_LIMIT, Trail};
-use decision::Decider;
+use decision::{Decider, InForce};
 use feature_store::{FEATURE_LIMIT, Meter, Store, StoreFault};
 use features::{Change, Feature, Subject, Subjects};
 use memory::{NoMemory, another, shared};
@@ -67,7 +67,7 @@ pub struct PlainWorld<A: Allocator> {
     pub(crate) trail: Trail<A>,
     pub(crate) store: Store<A>,
     pub(crate) version: u64,
-    pub(crate) decider: Arc<Decider>,
+    pub(crate) in_force: InForce,
     pub(crate) searches: Searches<A>,
     pub(crate) next_search: u64,
     pub(crate) transactions: Vec<Transaction<A>, A>,
@@ -94,7 +94,7 @@ impl<A: Allocator> Model for PlainWorld<A> {
       base = w.base;
       first = w.trail.first;
       trail = w.trail.records;
-      state = record { features = w.store; version = w.version; decider = arc_value w.decider };
+      state = record { features = w.store; version = w.version; decider = w.in_force };
       searches = w.searches;
       next_search = w.next_search;
       transactions = w.transactions.items;
@@ -102,7 +102,7 @@ impl<A: Allocator> Model for PlainWorld<A> {
     } };
 
     ghost invariant = { λ w. Keeps w.limits w.seats.items w.base w.trail.records
-        (record { features = w.store; version = w.version; decider = arc_value w.decider }) };
+        (record { features = w.store; version = w.version; decider = w.in_force }) };
 }
 
 impl<A: Allocator> PlainWorld<A> {
@@ -120,7 +120,7 @@ impl<A: Allocator> PlainWorld<A> {
     pub fn document(&self) -> &Document<Global>
         ensures { result.now ≡ self.now.state.decider.document }
     {
-        self.decider.document()
+        self.in_force.shared().document()
     }
 
     /// The decider in force.
@@ -134,14 +134,14 @@ impl<A: Allocator> PlainWorld<A> {
     pub fn decider_in_force(&self) -> &Arc<Decider>
         ensures { arc_value result.now ≡ self.now.state.decider }
     {
-        &self.decider
+        self.in_force.shared()
     }
 
     /// The edition of the document in force.
     pub fn edition(&self) -> u64
         ensures { result ≡ self.now.state.decider.edition }
     {
-        self.decider.edition()
+        self.in_force.shared().edition()
     }
 
     /// How many features there are.
@@ -259,7 +259,7 @@ impl<A: Allocator + Copy> PlainWorld<A> {
         ensures { IfOk result (λ w. w ≡ opened_from subjects base starts limits) }
     {
         let store = stored(alloc, base.features.as_slice())?;
-        let decider = another(&base.decider)?;
+        let in_force = in_force_over(another(&base.decider)?, base.features.as_slice());
         let opening = another(&base.decider)?;
         let searches = Searches::new(alloc)?;
         let version = base.version;
@@ -274,13 +274,24 @@ impl<A: Allocator + Copy> PlainWorld<A> {
             trail: Trail::starting_at(alloc, starts.rolled + 1),
             store,
             version,
-            decider,
+            in_force,
             searches,
             next_search: starts.search,
             transactions: Vec::new(alloc),
             next_transaction: 1,
         })
     }
+}
+
+/// A decider that comes in force where there are these features.
+fn in_force_over(decider: Arc<Decider>, rows: &[Feature]) -> InForce
+    ensures { result ≡ arc_value decider }
+{
+    let mut in_force = InForce::new(decider);
+    for row in rows {
+        in_force.tell(row.office, row.class);
+    }
+    in_force
 }
 
 /// A store of these features, which rise by id.

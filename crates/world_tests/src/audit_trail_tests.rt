@@ -1,9 +1,9 @@
 //! A trail's records and their lines, and how lists of changes are judged.
 use crate::parts::{document, name, point, square};
 use audit_trail::{Deed, FIRST_LIMIT, RECORD_LIMIT, Record, Trail, TrailFault};
-use decision::Decider;
+use decision::{Decider, InForce};
 use feature_store::Store;
-use features::{Change, Name, Subject};
+use features::{Action, Change, Name, Subject};
 use judging::{Cause, Judgement, Refusal, judge};
 use std::alloc::{AllocError, Global};
 use std::process::Abort;
@@ -26,6 +26,20 @@ fn decider(rt: &impl Abort, heap: Global, text: &str, edition: u64) -> Decider {
         Ok(decider) => decider,
         Err(_) => panic!(rt; "no decider: {text}"),
     }
+}
+
+/// The decider of a document in force, of which some is kept for what the editor of the office south asks.
+fn in_force(rt: &impl Abort, heap: Global, text: &str) -> InForce {
+    let shared = Arc::new(heap, decider(rt, heap, text, 1));
+    assert!(rt; shared.is_ok());
+    let mut in_force = InForce::new(shared.unwrap());
+    for (office, class) in [("south", "road"), ("north", "road"), ("south", "parcel")] {
+        in_force.tell(name(rt, office), name(rt, class));
+    }
+    for action in [Action::Add, Action::Reshape, Action::Delete] {
+        in_force.prepare(&editor(rt, "south"), &action, 2);
+    }
+    in_force
 }
 
 /// Checks the line of a deed of seat 7, recorded as the first of a trail.
@@ -174,7 +188,7 @@ fn store(rt: &impl Abort, heap: Global) -> Store<Global> {
 /// accepted.
 fn cause(rt: &impl Abort, heap: Global, change: Change) -> Option<Cause> {
     let judgement = judge(
-        &decider(rt, heap, INSIDE, 1),
+        &in_force(rt, heap, INSIDE),
         &store(rt, heap),
         &editor(rt, "south"),
         &[change],
@@ -257,7 +271,7 @@ fn first_of_two(
     let mut changes = Vec::new(heap);
     assert!(rt; changes.push(first).is_ok() && changes.push(second).is_ok());
     let judgement = judge(
-        &decider(rt, heap, OWN, 1),
+        &in_force(rt, heap, OWN),
         &store(rt, heap),
         &editor(rt, office),
         changes.as_slice(),

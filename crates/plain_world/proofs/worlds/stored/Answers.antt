@@ -1,6 +1,5 @@
-use Rattle.std.proofs.Common.{◌≡◌, ℕ, ◌+◌, ◌≤◌, ◌<◌, suc, List, length, take, slice_get, Some, Err, length-take-le, add-one, arith, refl, sym, ap, ◌∙◌}
+use Rattle.std.proofs.Common.{ℕ, suc, length, take, Err, length-take-le, add-one, arith, refl, sym, ap, ◌∙◌}
 use Rattle.std.proofs.lemmas.Option.{slice_get_read}
-use Rattle.features.specs.declared.rows.Feature.{Feature}
 use Rattle.features.specs.Rows.{feature_with, with_row}
 use Rattle.plain_world.proofs.StoredLemmas.{absent_before, put_next}
 use Rattle.plain_world.proofs.worlds.stored.Goals as goal

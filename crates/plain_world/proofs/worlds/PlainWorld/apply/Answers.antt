@@ -1,5 +1,4 @@
 use Rattle.std.proofs.Common.{◌+◌, ◌≤◌, arith, length, refl}
-use Rattle.std.specs.Arc.{arc_value}
 use Rattle.feature_store.specs.declared.tables.TheConstants.{LIST_LIMIT}
 use Rattle.judging.proofs.AcceptedLemmas.{can_apply}
 use Rattle.plain_world.proofs.EventLemmas.{too_many}
@@ -9,7 +8,7 @@ use Rattle.plain_world.proofs.worlds.PlainWorld.apply.Goals as goal
 pub len_after-requires : goal.len_after-requires
 len_after-requires g c =
     let accepted = rw (← c.self.view_is) at c.requires.accepted in
-    rw (c.as_slice.ensures.value) (can_apply (arc_value c.self.inside.decider).document c.self.inside.store c.args.subject c.args.changes.items c.requires.distinct accepted)
+    rw (c.as_slice.ensures.value) (can_apply (c.self.inside.in_force).document c.self.inside.store c.args.subject c.args.changes.items c.requires.distinct accepted)
 
 pub returns-then-len_after-most_features : goal.returns-then-len_after-most_features
 returns-then-len_after-most_features g c =
@@ -20,7 +19,7 @@ returns-then-len_after-most_features g c =
 pub apply-requires-clause-can : goal.apply-requires-clause-can
 apply-requires-clause-can g c =
     let accepted = rw (← c.self.view_is) at c.requires.accepted in
-    rw (c.changes_in.ensures, c.deref.ensures, c.in_ok-entry.ensures.entry, c.applied-told.ensures) (can_apply (arc_value c.self.inside.decider).document c.self.inside.store c.args.subject c.args.changes.items c.requires.distinct accepted)
+    rw (c.changes_in.ensures, c.deref.ensures, c.in_ok-entry.ensures.entry, c.applied-told.ensures) (can_apply (c.self.inside.in_force).document c.self.inside.store c.args.subject c.args.changes.items c.requires.distinct accepted)
 
 pub apply-requires-clause-few : goal.apply-requires-clause-few
 apply-requires-clause-few g c =

@@ -7,5 +7,5 @@ invariant_of-self-2 g c =
     let steward = rw (← c.self.view_is) at c.requires.steward in
     let below = rw (← c.self.view_is) at c.requires.below in
     let next = rw (← c.self.view_is) at c.requires.next in
-    rw (c.put.ensures.records, c.in_ok-entry.ensures.records, c.in_ok-entry.ensures.entry, c.new-told.ensures, c.edition-edition.ensures, c.deref.ensures, c.in_ok-kept.ensures)
+    rw (c.replace.ensures, c.put.ensures.records, c.in_ok-entry.ensures.records, c.in_ok-entry.ensures.entry, c.new-told.ensures, c.edition-edition.ensures, c.deref.ensures, c.in_ok-kept.ensures)
     (keeps_added _ _ _ _ _ _ c.self.invariant below (steward, next, refl))

@@ -30,4 +30,4 @@ invariant_of-self-2 g c =
 pub returns : goal.returns
 returns g c =
     rw (← c.self.view_is, c.put.ensures.records, c.in_ok-entry.ensures.records, c.in_ok-entry.ensures.entry, c.turned_away-told.ensures, c.put.ensures.first, c.in_ok-entry.ensures.first, c.end.ensures)
-    (ap (λ (d : Option DenialData). Ended (outcomes.Refused c.args.refusal.now d)) c.in_ok-denial.ensures, refl)
+    (ap (λ (d : Option DenialData). Ended (outcomes.Refused c.args.refusal.now d)) (rw (c.shared.ensures) at c.in_ok-denial.ensures), refl)

@@ -1,8 +1,8 @@
 use Rattle.std.proofs.Common.{sym}
 use Rattle.std.specs.Arc.{arc_value}
 use Rattle.plain_world.proofs.AnsweringLemmas.{keeps_answered, takes_in}
-use Rattle.plain_world.proofs.worlds.PlainWorld.take_in.Goals as goal
-use Rattle.plain_world.proofs.worlds.PlainWorld.take_in.Goals.{in-Ok-add, in-Err-add}
+use Rattle.plain_world.proofs.worlds.PlainWorld.put_down.Goals as goal
+use Rattle.plain_world.proofs.worlds.PlainWorld.put_down.Goals.{in-Ok-add, in-Err-add}
 
 pub invariant_of-self : goal.invariant_of-self
 invariant_of-self g c = elim c.match-add.branch [
