@@ -6,27 +6,40 @@ ghost use Rattle.state_lists.specs.Growing.{length_word};
 use crate::growing::StateRule;
 use crate::seen_states::SeenStates;
 use logbook::{Seen, Start, Word};
-use std::marker::{Brand, PhantomData};
+use std::marker::{Brand, Model, PhantomData};
 
 /// The name of a list. Its length and what was seen of it have that as a type parameter, so nobody
 /// is told of another list. It is a name for proofs, without code.
 pub trait StatesName {
     ghost use Rattle.logbook.specs.Pages.{Book};
 
-    ghost book: { Book };
+    ghost states: { Book };
 }
 
 impl StatesName for Brand {
-    ghost book = { record { number = 0; log_name = 0; cells_name = 0 } };
+    ghost states = { record { number = 0; log_name = 0; cells_name = 0 } };
 }
 
-/// A list with no state, which has no name yet.
+/// A list with no state, which has no name yet. Contracts see the book of the list: the name that
+/// it is given (`StatesName`) has that book.
 #[derive(Drop)]
 pub struct NewList<S> {
     pub(crate) word: Word<S, u64, StateRule>,
     pub(crate) seen: Seen<S, u64, StateRule>,
-    ghost is_empty: { seen.log ≡ [] },
-    ghost is_its_word: { word ≡ length_word seen.book },
+}
+
+impl<S> Model for NewList<S> {
+    ghost use Rattle.std.specs.Prelude.{◌≡◌, []};
+    ghost use Rattle.logbook.specs.Pages.{Book, book_coded};
+    ghost use Rattle.state_lists.specs.Growing.{length_word};
+
+    ghost Value = { Book };
+
+    ghost coded = { book_coded };
+
+    ghost view = { λ l. l.seen.book };
+
+    ghost invariant = { λ l. (l.seen.log ≡ []) × (l.word ≡ length_word l.seen.book) };
 }
 
 impl<S> NewList<S> {
@@ -41,7 +54,7 @@ impl<S> NewList<S> {
 
     /// The list under its name: its length, and its beginning of which nothing was seen.
     pub fn named<J: StatesName>(self) -> (ListLength<J, S>, SeenStates<J, S>)
-        requires { self.seen.book ≡ J.book }
+        requires { self ≡ J.states }
         ensures { result.1 ≡ [] }
     {
         let NewList { word, seen } = self;
@@ -58,5 +71,5 @@ impl<S> NewList<S> {
 pub struct ListLength<J: StatesName, S> {
     pub(crate) word: Word<S, u64, StateRule>,
     of: PhantomData<J>,
-    ghost is_its_word: { word ≡ length_word J.book },
+    ghost is_its_word: { word ≡ length_word J.states },
 }

@@ -7,6 +7,7 @@ use crate::growing::{AddState, NoGain, StateRule};
 use crate::lists::{ListLength, StatesName};
 use logbook::{Offer, Seen};
 use std::marker::{Model, PhantomData};
+use std::sync::Wait;
 
 /// A beginning of a list that was seen. At run time it is a length, and takes no memory. Contracts
 /// see the states, the oldest first.
@@ -24,14 +25,14 @@ impl<J: StatesName, S> Model for SeenStates<J, S> {
 
     ghost view = { λ s. s.seen.log };
 
-    ghost invariant = { λ s. (s.len ≡ length s.seen.log) × (s.seen.book ≡ J.book) };
+    ghost invariant = { λ s. (s.len ≡ length s.seen.log) × (s.seen.book ≡ J.states) };
 }
 
 impl<J: StatesName, S> SeenStates<J, S> {
     /// Nothing was seen.
     pub(crate) fn nothing(seen: Seen<S, u64, StateRule>) -> SeenStates<J, S>
         requires empty { seen.log ≡ [] }
-        requires named { seen.book ≡ J.book }
+        requires named { seen.book ≡ J.states }
         ensures { result ≡ [] }
     {
         SeenStates {
@@ -94,5 +95,33 @@ impl<J: StatesName, S> SeenStates<J, S> {
             of: PhantomData,
         };
         true
+    }
+
+    /// A fact for callers, without effect: two beginnings that have seen all of the list are the
+    /// same. Where one of them has not, it waits for ever.
+    pub fn meet<W: Wait>(&self, rt: &W, other: &SeenStates<J, S>)
+        ensures { self.now ≡ other.now }
+    {
+        for _ in rt.forever() {
+            if self.is_same(other) {
+                return;
+            }
+        }
+        unreachable!()
+    }
+
+    /// Adds a state to the list, of which all was seen: nobody else adds one meanwhile. Where that
+    /// is not so, it waits for ever.
+    pub fn grow<W: Wait>(&mut self, rt: &W, list: &ListLength<J, S>, state: &S)
+        ensures { self.new ≡ self.old ++ state.now ∷ [] }
+    {
+        for _ in rt.forever() {
+            let mut longer = self.again();
+            if longer.add(list, state) {
+                *self = longer;
+                return;
+            }
+        }
+        unreachable!()
     }
 }
