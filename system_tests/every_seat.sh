@@ -2,12 +2,14 @@
 # further one to be refused: --connections allows no more.)
 source "$(dirname "$0")/parts.bash"
 server one map.sock --connections 1024
+loops=()
 for loop in 1 2 3 4; do
     for ((n = 1; n <= 256; n++)); do
         talk map.sock "HELLO north" "SEARCH POINT ($n $loop)" BYE
     done > "told.$loop" &
+    loops+=("$!")
 done
-wait "$!"
+wait "${loops[@]}"
 ended one 0
 told one "listening map.sock" "closed 1024 records"
 for text in "hello north" "rows 0" bye; do

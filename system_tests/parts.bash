@@ -146,11 +146,12 @@ leave() {
     ended "$1" "${2:-0}"
 }
 
-# talk PATH LINE..: the replies to these lines, of a client that ends with them.
+# talk PATH LINE..: the replies to these lines, of a client that ends with them. A client that has ended already reads none of them, which
+# is no fault.
 talk() {
     local path=$1
     shift
-    printf '%s\n' "$@" | "$program" connect --socket "$path"
+    "$program" connect --socket "$path" < <(printf '%s\n' "$@" 2> /dev/null)
 }
 
 # answered PATH LINE REPLY..: one session with this line behind its HELLO.

@@ -1,11 +1,18 @@
 # With --until-stdin-ends nobody is served behind the end of standard input, and a session under way goes on.
 source "$(dirname "$0")/parts.bash"
-# Whether nobody listens on a path any more. (Other tests have other paths, for these are those of all processes.)
+# Whether somebody listens on a path. (Other tests have other paths, for these are those of all processes.) A list that changes while it is
+# read may lack some of them, so the path is looked for several times.
+is_open() {
+    local look flags path
+    for look in 1 2 3 4 5; do
+        while read -r _ _ _ flags _ _ _ path; do
+            [[ $flags != 00010000 || $path != "$1" ]] || return 0
+        done < /proc/net/unix
+    done
+    return 1
+}
 is_closed() {
-    local flags path
-    while read -r _ _ _ flags _ _ _ path; do
-        [[ $flags != 00010000 || $path != "$1" ]] || return 1
-    done < /proc/net/unix
+    ! is_open "$1"
 }
 mkfifo input
 exec {keeps}<> input
@@ -15,7 +22,7 @@ client under_way until.sock
 ask under_way "HELLO north" "hello north"
 echo "what is written to it is not read as lines" >&"$keeps"
 sleep 0.2
-! is_closed until.sock || fail "it has ended before its input"
+is_open until.sock || fail "it has ended before its input"
 exec {keeps}>&-
 await is_closed until.sock || fail "it listens behind the end of the input"
 ! talk until.sock "HELLO south" > /dev/null 2>&1 || fail "a client is served behind the end of the input"

@@ -6,7 +6,8 @@
 Three parts: one client that searches alone; the same while another client commits one feature every 100 ms, and while one commits without
 pause (additions and deletions in turn); and 1, 4 and 16 clients each of which makes nine searches and then a commit of one feature, again and again. Each row: requests a
 second (a commit is one, with its ADD), the 50th and 99th percentile of a search in microseconds, and the processor's share of the server.
-A last row: 20,000 RESHAPEs of one client, and how much the server's memory has grown by them.
+Then a commit of one feature every 10 ms, alone and beside 4 and 16 clients that search without pause: the 50th and the 99th percentile of the
+commit, and the longest, in milliseconds. A last row: 20,000 RESHAPEs of one client, and how much the server's memory has grown by them.
 """
 import argparse
 import math
@@ -78,14 +79,31 @@ def committing(path, pause, first, stop):
     session.ask("BYE", 1)
 
 
+def timed_commits(path, seconds, first):
+    """The times of lists of one feature, one each 10 ms: the 50th and the 99th percentile, and the longest, in milliseconds."""
+    chance, session, version, times = random.Random(first), Session(path), None, []
+    end = time.monotonic() + seconds
+    while time.monotonic() < end:
+        line = f"ADD {first} mast {point(chance)}" if version is None else f"DELETE {first} {version}"
+        begun = time.monotonic()
+        reply = session.ask(line + "\nCOMMIT", 2)[1]
+        times.append(1000 * (time.monotonic() - begun))
+        assert reply.startswith("applied "), reply
+        version = reply.split()[1] if version is None else None
+        time.sleep(0.01)
+    session.ask("BYE", 1)
+    times.sort()
+    return times[len(times) // 2], times[len(times) * 99 // 100], times[-1]
+
+
 def asker(path, seconds, file):
     words = [os.path.join(WORK, "asker"), path, "1", str(seconds), "1", file, "HELLO north"]
     return subprocess.Popen(words, stdout=subprocess.PIPE, text=True)
 
 
-def searches(features, count):
+def searches(features, count, rows=10):
     chance = random.Random(2)
-    return [f"SEARCH {square(chance, 10 / features)}" for _ in range(count)]
+    return [f"SEARCH {square(chance, rows / features)}" for _ in range(count)]
 
 
 def written(name, lines):
@@ -148,6 +166,13 @@ def measure(path, server, features, seconds):
             files.append(written(f"mixed{client}", lines))
         before = processor(server)
         told(f"{clients} clients, nine searches to one commit", server, seconds, [asker(path, seconds, file) for file in files], before)
+    for clients, rows, name in ((0, 0, "alone"), (16, 10, "beside 16 of ten rows"), (4, features / 100, "beside 4 of 1 %"), (16, features / 100, "beside 16 of 1 %")):
+        file = written("beside", searches(features, 5000, max(rows, 1)))
+        askers = [asker(path, seconds + 1, file) for _ in range(clients)]
+        time.sleep(0.5)
+        middle, late, longest = timed_commits(path, seconds, 40_000_000 + clients * 1000 + int(rows))
+        rate = sum(float(asker.communicate()[0].split()[0]) for asker in askers)
+        print(f"a commit every 10 ms {name:24} {middle:6.2f} ms, {late:6.2f} ms, at most {longest:6.1f} ms; {rate:8.0f} searches a second", flush=True)
     session, chance = Session(path), random.Random(9)
     reply = session.ask("ADD 77777777 mast POINT (0 0)\nCOMMIT", 2)[1]
     assert reply.startswith("applied "), reply

@@ -5,7 +5,7 @@ use Rattle.judging.specs.States.{PlainState}
 use Rattle.chronicle.specs.Chronicles.{ChronicleData, IsSoundChronicle, Opening}
 use Rattle.chronicle.specs.Comparing.{DifferFirst}
 use Rattle.hall.specs.declared.faults.CloseFault.{CloseFault}
-use Rattle.hall.specs.declared.faults.CloseFault.TheVariants.{Mismatch, SeatOut}
+use Rattle.hall.specs.declared.faults.CloseFault.TheVariants.{Memory, Mismatch, SeatOut}
 use Rattle.hall.specs.Seats.{SeatData, IsKeptBy}
 
 -- There is one legal trail of this many records from this opening on, and this many seats were given
@@ -43,8 +43,10 @@ pub record IsMismatch (named place : ℕ) (c : ChronicleData) (seats : List Seat
   pub number : seat.number ≡ named
   pub differ : DifferFirst place (calls_of seat.number c.records) seat.receipts
 
--- why a hall does not close: the receipts and the records of a seat differ; or fewer or more seats
--- are handed in than were given, or they were handed in before
+-- why a hall whose answers are all among its records does not close: the receipts and the records
+-- of a seat differ; or fewer or more seats are handed in than were given, or they were handed in
+-- before
 abbrev pub IsCause : ChronicleData → Bool → List SeatData → CloseFault → Type 0
 IsCause c gathered seats (Mismatch number place) = IsMismatch number place c seats
 IsCause c gathered seats SeatOut = (length seats ≢ length c.seats) ⊎ (gathered ≡ true)
+IsCause c gathered seats Memory = ⊥

@@ -36,3 +36,4 @@ hall_fault other = faults.Core other
 abbrev pub close_code : CloseFault → List ℕ
 close_code (closing.Mismatch seat place) = codes "C1"
 close_code closing.SeatOut = codes "C2"
+close_code closing.Memory = codes "H6"

@@ -1,16 +1,20 @@
 //! Closing a hall.
 
-ghost use Rattle.std.specs.Prelude.{◌≡◌, ◌+◌, false, IfNone, IfSome, length, All};
-ghost use Rattle.hall.specs.Closing.{IsCause};
+ghost use Rattle.std.specs.Prelude.{◌≡◌, ◌≤◌, ◌<◌, ◌+◌, false, IfErr, IfNone, IfOk, IfSome, length, All};
+ghost use Rattle.features.specs.Rows.{IsSortedById};
+ghost use Rattle.hall.specs.Closing.{IsCause, IsClosed, IsClosedAt};
 ghost use Rattle.hall.specs.Seats.{IsKeptBy, receipts_of};
 
 use crate::faults::{CloseFault, HallFault};
+use crate::guarded::{Guarded, LEDGER_PARTS};
+use crate::lobby::Lobby;
 use crate::names::HallName;
 use crate::seats::Seat;
 use chronicle::Chronicle;
+use feature_store::FEATURE_LIMIT;
 use std::alloc::Allocator;
-use std::sync::Wait;
 use std::sync::ledger::Share;
+use std::sync::{Mutex, Wait};
 use world::Base;
 
 /// The account of a closed hall.
@@ -86,5 +90,65 @@ pub(crate) fn gather<'h, L: HallName, R: Wait + Drop, A: Allocator>(
     let mut left = seats;
     while let Some(seat) = left.pop() {
         take_in(spare, seat);
+    }
+}
+
+impl<L: HallName, A: Allocator + Copy> Guarded<L, A> {
+    /// Closes the hall, once the answers in the tray are taken in; H6 where they cannot be.
+    pub(crate) fn close<'h, R: Wait + Drop, W: Wait>(
+        &mut self,
+        rt: &W,
+        lobby: &Mutex<Lobby<L, R, A>>,
+        seats: Vec<Seat<'h, L, R, A>, A>,
+    ) -> Result<Closed, (CloseFault, Vec<Seat<'h, L, R, A>, A>)>
+        requires { L.parts ≡ LEDGER_PARTS }
+        ensures records { IfOk result (λ closed. closed.records ≡ receipts_of seats.entry.items) }
+        ensures seats { IfOk result (λ closed. closed.seats ≡ length seats.entry.items) }
+        ensures trail { IfOk result
+            (λ closed. IsClosed L.opening closed.records closed.seats seats.entry.items) }
+        ensures back { IfErr result (λ e. e.1.items ≡ seats.entry.items) }
+    {
+        let mut lobby = lobby.lock(rt);
+        let lobby = &mut *lobby;
+        match self.take_in(rt, lobby) {
+            Ok(()) => {}
+            Err(_) => return Err((CloseFault::Memory, seats)),
+        }
+        self.sound();
+        self.settle(lobby, seats)
+    }
+
+    /// Closes the hall as `close` does, and returns the state that it has come to.
+    pub(crate) fn leave<'h, R: Wait + Drop, W: Wait>(
+        &mut self,
+        rt: &W,
+        lobby: &Mutex<Lobby<L, R, A>>,
+        seats: Vec<Seat<'h, L, R, A>, A>,
+    ) -> Result<Left<A>, (LeaveFault, Vec<Seat<'h, L, R, A>, A>)>
+        requires { L.parts ≡ LEDGER_PARTS }
+        ensures records { IfOk result (λ left. left.closed.records ≡ receipts_of seats.entry.items) }
+        ensures seats { IfOk result (λ left. left.closed.seats ≡ length seats.entry.items) }
+        ensures trail { IfOk result (λ left. IsClosedAt L.opening left.closed.records
+            left.closed.seats seats.entry.items left.base) }
+        ensures sorted { IfOk result (λ left. IsSortedById left.base.features) }
+        ensures few { IfOk result (λ left. length left.base.features ≤ FEATURE_LIMIT) }
+        ensures edition { IfOk result (λ left. 0 < left.base.decider.edition) }
+        ensures back { IfErr result (λ e. e.1.items ≡ seats.entry.items) }
+    {
+        let mut lobby = lobby.lock(rt);
+        let lobby = &mut *lobby;
+        match self.take_in(rt, lobby) {
+            Ok(()) => {}
+            Err(fault) => return Err((LeaveFault::State(HallFault::from(fault)), seats)),
+        }
+        self.sound();
+        let base = match self.state() {
+            Ok(base) => base,
+            Err(fault) => return Err((LeaveFault::State(fault), seats)),
+        };
+        match self.settle(lobby, seats) {
+            Ok(closed) => Ok(Left { closed, base }),
+            Err((fault, seats)) => Err((LeaveFault::Close(fault), seats)),
+        }
     }
 }

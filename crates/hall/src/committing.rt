@@ -16,32 +16,46 @@ use features::{Change, Subject};
 use memory::GrowVec;
 use std::alloc::Allocator;
 use std::sync::ledger::Share;
-use std::sync::{Arc, MutexGuard, Wait};
+use std::sync::{Arc, Condvar, RwLockWriteGuard, Wait};
 use world::{Fault, Outcome, TreeFault};
 
-/// Ends a try of a list that is refused. S3 waits first, in this critical section, until a search
-/// ends, X15 until a transaction ends. The list's transaction is aborted then, and whoever waits
+/// Lets the world go until one of what is waited for has ended, and takes it again. Whoever waits has
+/// the lock of those who wait before he lets the world go: so he misses no end.
+fn waited_for<'h, L: HallName, R: Wait + Drop, A: Allocator + Copy, W: Wait>(
+    rt: &W,
+    hall: &'h Hall<L, R, A>,
+    world: RwLockWriteGuard<'h, Guarded<L, A>>,
+    ended: &Condvar,
+) -> RwLockWriteGuard<'h, Guarded<L, A>> {
+    let waiting = hall.waiting.lock(rt);
+    drop(world);
+    drop(ended.wait(rt, waiting));
+    hall.world.write(rt)
+}
+
+/// Ends a try of a list that is refused. S3 waits first, and lets the world go, until a search ends,
+/// X15 until a transaction ends. The list's transaction is aborted then, and whoever waits
 /// for its end is woken. Ok where the list may be tried again: it waited, and `tries` leaves one
 /// more. H4 for S3.
-fn wait_or_give_up<L: HallName, R: Wait + Drop, A: Allocator, W: Wait>(
+fn wait_or_give_up<'h, L: HallName, R: Wait + Drop, A: Allocator + Copy, W: Wait>(
     rt: &W,
-    hall: &Hall<L, R, A>,
-    guarded: MutexGuard<'_, Guarded<L, R, A>>,
+    hall: &'h Hall<L, R, A>,
+    world: RwLockWriteGuard<'h, Guarded<L, A>>,
     seat: u32,
     committing: Committing,
     fault: Fault,
     tries: &mut u32,
 ) -> Result<(), HallFault> {
     let waits = matches!(fault, Fault::TooMany | Fault::Tree(TreeFault::Held(_)));
-    let mut guarded = match &fault {
-        Fault::Tree(TreeFault::Held(_)) => hall.search_ended.wait(rt, guarded),
-        Fault::TooMany => hall.transaction_ended.wait(rt, guarded),
-        _ => guarded,
+    let mut world = match &fault {
+        Fault::Tree(TreeFault::Held(_)) => waited_for(rt, hall, world, &hall.search_ended),
+        Fault::TooMany => waited_for(rt, hall, world, &hall.transaction_ended),
+        _ => world,
     };
-    let ended = guarded.abort(seat, committing);
-    drop(guarded);
+    let ended = world.abort(seat, committing);
+    drop(world);
     if ended {
-        hall.transaction_ended.notify_all();
+        hall.wake(rt, &hall.transaction_ended);
     }
     *tries = tries.saturating_sub(1);
     if waits && *tries > 0 {
@@ -79,16 +93,26 @@ fn committed<L: HallName, R: Wait + Drop, A: Allocator + Copy, W: Wait, P: Pause
     let mut committing = Committing::New;
     let mut tries = TRY_LIMIT;
     for _ in rt.forever() {
-        let mut guarded = hall.lock.lock(rt);
-        match guarded.commit_on(rt, seat, subject, share, changes, &mut committing, events) {
+        let mut world = hall.world.write(rt);
+        let lobby = &hall.lobby;
+        match world.commit_on(
+            rt,
+            lobby,
+            seat,
+            subject,
+            share,
+            changes,
+            &mut committing,
+            events,
+        ) {
             Ok(done) => {
-                drop(guarded);
-                hall.transaction_ended.notify_all();
+                drop(world);
+                hall.wake(rt, &hall.transaction_ended);
                 return Ok(done);
             }
-            Err(Unfinished::More) => drop(guarded),
+            Err(Unfinished::More) => drop(world),
             Err(Unfinished::Refused(fault)) => {
-                wait_or_give_up(rt, hall, guarded, seat, committing, fault, &mut tries)?;
+                wait_or_give_up(rt, hall, world, seat, committing, fault, &mut tries)?;
                 committing = Committing::New;
             }
         }

@@ -152,6 +152,9 @@ pub enum CloseFault {
     Mismatch(u32, usize),
     /// C2: fewer or more seats are handed in than were given, or they were handed in before.
     SeatOut,
+    /// H6: an allocation was refused, so that answers are not yet among the records. The call may be
+    /// made again.
+    Memory,
 }
 
 impl CloseFault {
@@ -164,6 +167,7 @@ impl CloseFault {
         match self {
             CloseFault::Mismatch(..) => "C1",
             CloseFault::SeatOut => "C2",
+            CloseFault::Memory => "H6",
         }
     }
 }

@@ -1,17 +1,51 @@
 //! Policies that a seat puts in force, and rolls of the trail.
 
-ghost use Rattle.std.specs.Prelude.{◌≡◌, IfOk, OnErr};
-ghost use Rattle.hall.specs.Calls.{IsGoverned};
+ghost use Rattle.std.specs.Prelude.{◌≡◌, ◌<◌, ◌+◌, None, Some, IfOk, OnErr, OnOk};
+ghost use Rattle.std.specs.Arc.{arc_value};
+ghost use Rattle.std.specs.List.{last_or};
+ghost use Rattle.audit_trail.specs.Records.{governed};
+ghost use Rattle.published_policies.specs.Lists.{last_edition};
+ghost use Rattle.hall.specs.Calls.{IsGoverned, put_in_force};
 
 use crate::faults::HallFault;
+use crate::halls::Hall;
 use crate::names::HallName;
 use crate::seats::Seat;
+use audit_trail::Record;
 use memory::GrowVec;
 use policy_documents::Document;
 use published_policies::Edition;
 use std::alloc::{Allocator, Global};
+use std::sync::ledger::Share;
 use std::sync::{Arc, Wait};
 use world::Rolled;
+
+/// Puts a document in force for a seat, and publishes it, in one critical section. The record is
+/// counted in the seat's share.
+fn governed<L: HallName, R: Wait + Drop, A: Allocator + Copy, W: Wait>(
+    rt: &W,
+    hall: &Hall<L, R, A>,
+    seat: u32,
+    share: &mut Share<L>,
+    document: Document<Global>,
+) -> Result<(Edition<L>, Arc<Record<A>, A>), HallFault>
+    requires { 0 < share.old.parts }
+    ensures last { IfOk result
+        (λ done. last_or None done.0 ≡ Some (put_in_force document done.0)) }
+    ensures receipt { IfOk result
+        (λ done. arc_value done.1
+        ≡ record {
+          seat = seat;
+          deed = governed (last_edition done.0) (put_in_force document done.0);
+        }) }
+    ensures amount { OnOk result (share.new.amount ≡ share.old.amount + 1) }
+    ensures err { OnErr result (share.new.amount ≡ share.old.amount) }
+    ensures parts { share.new.parts ≡ share.old.parts }
+{
+    hall.world
+        .write(rt)
+        .govern(rt, &hall.lobby, hall.heap, seat, share, document)
+}
 
 impl<'h, L: HallName, R: Wait + Drop, A: Allocator + Copy> Seat<'h, L, R, A> {
     /// Puts a document in force, and returns its edition, which a view may be told. H6 where there
@@ -29,13 +63,13 @@ impl<'h, L: HallName, R: Wait + Drop, A: Allocator + Copy> Seat<'h, L, R, A> {
     {
         self.receipts.make_slot()?;
         let hall = self.hall;
-        let governed = hall
-            .lock
-            .lock(rt)
-            .govern(rt, hall.heap, self.number, &mut self.share, document);
-        let (edition, receipt) = governed?;
-        self.receipts.push_reserved(receipt);
-        Ok(edition)
+        match governed(rt, hall, self.number, &mut self.share, document) {
+            Ok((edition, receipt)) => {
+                self.receipts.push_reserved(receipt);
+                Ok(edition)
+            }
+            Err(fault) => Err(fault),
+        }
     }
 
     /// Takes the trail out: the records since the last roll, with their lines. The hall keeps the
@@ -45,6 +79,8 @@ impl<'h, L: HallName, R: Wait + Drop, A: Allocator + Copy> Seat<'h, L, R, A> {
         ensures { self.new ≡ self.old }
     {
         let hall = self.hall;
-        hall.lock.lock(rt).roll(hall.heap, self.number)
+        hall.world
+            .write(rt)
+            .roll(rt, &hall.lobby, hall.heap, self.number)
     }
 }

@@ -1,4 +1,4 @@
-//! What the lock guards.
+//! What the world's lock guards.
 
 ghost use Rattle.std.specs.Prelude.{◌≡◌, ◌<◌, ◌≤◌, ◌+◌, ◌-◌, ℕ, [], ◌∷◌, ◌++◌, drop, false, length, map, min, slice_get, take, vec_capacity, vec_len, None, Some, Ok, IfOk, IfErr, OnOk, OnErr, All};
 ghost use Rattle.std.specs.Arc.{arc_value};
@@ -8,19 +8,23 @@ ghost use Rattle.features.specs.Rows.{IsSortedById};
 ghost use Rattle.features.specs.Subjects.{subject_named};
 ghost use Rattle.chronicle.specs.Chronicles.{IsLastChange, IsSoundChronicle, opened_with, subject_given};
 ghost use Rattle.chronicle.specs.Coding.{opening_set};
+ghost use Rattle.answer_tray.specs.Trays.{AreAnswersAt, empty_at};
 ghost use Rattle.chronicle.specs.Noting.{told_answer};
 ghost use Rattle.plain_world.specs.Answers.{IsAnswer};
 ghost use Rattle.plain_world.specs.Laws.{deed_of};
 ghost use Rattle.plain_world.specs.declared.settings.TheConstants.{SEAT_LIMIT};
-ghost use Rattle.published_policies.specs.Coding.{decider_set};
 ghost use Rattle.published_policies.specs.Lists.{last_edition};
 ghost use Rattle.hall.specs.Calls.{IsNext, IsOutcome, put_in_force};
+ghost use Rattle.hall.specs.Present.{present_set};
 ghost use Rattle.hall.specs.Closing.{IsCause};
+ghost use Rattle.hall.specs.Reading.{IsCounted};
 ghost use Rattle.hall.specs.Seats.{IsKeptBy, receipts_of};
 ghost use Rattle.hall.specs.declared.guarded.TheConstants.{COPIED_AT_ONCE, LEDGER_PARTS};
 
+use crate::checks::{another_owner, is_seat_of, next_decider};
 use crate::closing::{Closed, gather, mismatch};
 use crate::faults::{CloseFault, HallFault};
+use crate::lobby::Lobby;
 use crate::names::HallName;
 use crate::seats::Seat;
 use crate::sections::{Committing, Searching, Unfinished};
@@ -29,198 +33,107 @@ use chronicle::Chronicle;
 use decision::Decider;
 use feature_store::FEATURE_LIMIT;
 use features::{Change, Name, Subject};
-use memory::{NoMemory, another, shared};
+use memory::{NoMemory, another};
 use plane::Shape;
 use policy_documents::Document;
-use published_policies::{Edition, Publisher, View};
+use published_policies::{Edition, View};
+use state_lists::{ListLength, SeenStates};
 use std::alloc::{Allocator, Global};
-use std::sync::ledger::{Blank, Book, Ledger, Share};
-use std::sync::{Arc, Wait};
+use std::sync::ledger::Share;
+use std::sync::{Arc, Mutex, Wait};
 use world::{Advance, Answer, Base, Fault, Outcome, Rolled, SEAT_LIMIT, Visit};
 
 /// The parts of a hall's ledger: one for each seat that may be given, and one that stays.
 pub const LEDGER_PARTS: u64 = SEAT_LIMIT as u64 + 1;
 
-/// The most records that are copied in one critical section.
+/// The most records that are copied in one call.
 pub const COPIED_AT_ONCE: u64 = 256;
 
 /// How many slots are tended in one critical section.
 pub(crate) const SLOTS_AT_ONCE: u32 = 16;
 
-/// What the lock guards: the world with all its records, the published policies that views read,
-/// and the number of records in a ledger, in which each seat has its share. Whoever gets the lock
-/// knows the facts below, and those of a chronicle.
+/// What the first lock guards, which many may have for reading: the world, with the records that it
+/// has taken in. The records of the readers' answers lie in the lobby, behind the second lock, until
+/// the world takes them in; the list of chronicles says that the two go together. Whoever gets the
+/// lock knows the facts below, and those of a chronicle.
 #[derive(Drop)]
-pub(crate) struct Guarded<L: HallName, R: Wait + Drop, A: Allocator> {
+pub(crate) struct Guarded<L: HallName, A: Allocator> {
     chronicle: Chronicle<A>,
-    publisher: Publisher<L, R>,
-    /// How many views may still be given.
-    views_left: usize,
-    /// How many records there are.
-    book: Book<L>,
-    /// The parts for the seats that are not given yet.
+    /// The list of the chronicles that there were.
+    list: ListLength<L, Chronicle<A>>,
+    /// All of that list: it ends with the present chronicle.
+    seen: SeenStates<L, Chronicle<A>>,
+    /// How many records the trail takes between two rolls.
+    trail_limit: u64,
+    /// The parts of the ledger for the seats that are not given yet.
     spare: Share<L>,
     /// No seat and no view is given any more, and nothing is tended.
     closed: bool,
     /// Seats were given, and all of them were handed in.
     gathered: bool,
     pub ghost ends: { closed ≡ false → gathered ≡ false },
-    pub ghost counted: { book.total ≡ length chronicle.records },
     pub ghost idle: { gathered ≡ false → spare.amount ≡ 0 },
     pub ghost cut: { gathered ≡ false → spare.parts + length chronicle.seats ≡ LEDGER_PARTS },
     pub ghost opened: { chronicle.opening ≡ L.opening } by { opening_set _ _ },
-    pub ghost begins: { slice_get publisher 0 ≡ Some L.opening.base.decider } by { decider_set _ _ },
-    pub ghost in_force: { last_or None publisher ≡ Some chronicle.state.decider } by { decider_set _ _ },
+    pub ghost edition: { 0 < chronicle.state.decider.edition },
+    pub ghost present: { last_or None seen ≡ Some chronicle } by { present_set _ _ },
 }
 
-/// Counts the last record, which was just written, in a seat's share, and returns another owner of
-/// it.
-fn receipt<L: Ledger, W: Wait, A: Allocator>(
-    rt: &W,
-    chronicle: &Chronicle<A>,
-    book: &mut Book<L>,
-    share: &mut Share<L>,
-) -> Arc<Record<A>, A>
-    requires { 0 < share.old.parts }
-    ensures last { last_or None chronicle.now.records ≡ Some (arc_value result) }
-    ensures total { book.new.total ≡ book.old.total + 1 }
-    ensures amount { share.new.amount ≡ share.old.amount + 1 }
-    ensures parts { share.new.parts ≡ share.old.parts }
-{
-    book.add(share, 1);
-    last_record(rt, chronicle)
-}
-
-/// Another owner of the last record. Only the number of its owners can refuse one more, and then it
-/// is tried again.
-fn last_record<W: Wait, A: Allocator>(rt: &W, chronicle: &Chronicle<A>) -> Arc<Record<A>, A>
-    ensures { last_or None chronicle.now.records ≡ Some (arc_value result) }
-{
-    for _ in rt.forever() {
-        match chronicle.last() {
-            None => {}
-            Some(record) => match another(record) {
-                Ok(receipt) => return receipt,
-                Err(_) => {}
-            },
-        }
-    }
-    unreachable!()
-}
-
-/// X1 unless the seat is this subject's.
-fn is_seat_of<A: Allocator>(
-    chronicle: &Chronicle<A>,
-    seat: u32,
-    subject: &Subject,
-) -> Result<(), Fault>
-    ensures { OnOk result (subject_given seat chronicle.now.seats ≡ Ok subject.now) }
-{
-    let seated = chronicle.subject_at(seat)?;
-    if seated == *subject {
-        Ok(())
-    } else {
-        Err(Fault::NoSuch)
-    }
-}
-
-/// The decider of a document, for the next edition, if the seat may put it in force. X1, X7, X8 or
-/// X10 as the world refuses that; H6 where an allocation is refused.
-fn next_decider<A: Allocator>(
-    chronicle: &Chronicle<A>,
-    heap: Global,
-    seat: u32,
-    document: Document<Global>,
-) -> Result<Arc<Decider>, HallFault>
-    ensures { IfOk result (λ decider. IsNext document chronicle.now (arc_value decider)) }
-{
-    let edition = chronicle.next_edition(seat)?;
-    let decider = match Decider::new(document, edition) {
-        Ok(decider) => decider,
-        Err(failed) => return Err(HallFault::Memory(NoMemory::from(failed))),
-    };
-    match shared(heap, decider) {
-        Ok(decider) => Ok(decider),
-        Err(failed) => Err(HallFault::Memory(NoMemory::from(failed))),
-    }
-}
-
-impl<L: HallName, R: Wait + Drop, A: Allocator> Guarded<L, R, A> {
-    /// A chronicle that was just opened, with its first policy published, a new ledger, and this
-    /// many views to give.
+impl<L: HallName, A: Allocator> Guarded<L, A> {
+    /// A chronicle that was just opened, with which the list of chronicles ends, with all parts of a
+    /// new ledger, and a trail of so many records.
     pub(crate) fn new(
         chronicle: Chronicle<A>,
-        publisher: Publisher<L, R>,
-        views: usize,
-        blank: Blank,
+        list: ListLength<L, Chronicle<A>>,
+        seen: SeenStates<L, Chronicle<A>>,
+        trail_limit: u64,
+        spare: Share<L>,
     ) -> Self
-        requires name { blank.name ≡ L.name }
-        requires parts { (blank.parts ≡ L.parts) × (L.parts ≡ LEDGER_PARTS) }
+        requires whole { (spare.parts ≡ LEDGER_PARTS) × (spare.amount ≡ 0) }
         requires opened { chronicle ≡ opened_with L.opening }
-        requires published { publisher ≡ L.opening.base.decider ∷ [] }
+        requires edition { 0 < L.opening.base.decider.edition }
+        requires present { last_or None seen ≡ Some chronicle }
         ensures { result.chronicle ≡ chronicle }
     {
-        let (book, spare) = blank.open::<L>();
         Guarded {
             chronicle,
-            publisher,
-            views_left: views,
-            book,
+            list,
+            seen,
+            trail_limit,
             spare,
             closed: false,
             gathered: false,
         }
     }
 
-    /// Gives a seat: its number, the subject of this name, and a part of the ledger. H3 where the
-    /// hall is closed, H1 where there is no such subject, H2 where all seats are given, H5 where an
-    /// allocation is refused.
-    pub(crate) fn seat(&mut self, name: Name) -> Result<(u32, Subject, Share<L>), HallFault>
-        ensures next { IfOk result (λ given. given.0 ≡ length self.old.chronicle.seats + 1) }
-        ensures few { IfOk result (λ given. given.0 ≤ SEAT_LIMIT) }
-        ensures named { IfOk result (λ given. subject_named name L.opening.subjects ≡ Some given.1) }
-        ensures share { IfOk result (λ given. (given.2.parts ≡ 1) × (given.2.amount ≡ 0)) }
+    /// Gives a view of the policies. H3 where the hall is closed, H2 where all views are given.
+    pub(crate) fn view<R: Wait + Drop, W: Wait>(
+        &self,
+        rt: &W,
+        lobby: &Mutex<Lobby<L, R, A>>,
+    ) -> Result<View<L>, HallFault>
+        ensures { IfOk result (λ view. slice_get view 0 ≡ Some L.opening.base.decider) }
     {
-        let Guarded {
-            chronicle,
-            spare,
-            closed,
-            ..
-        } = self;
-        if *closed {
+        if self.closed {
             return Err(HallFault::Closed);
         }
-        let number = chronicle.seat(name)?;
-        let Ok(subject) = chronicle.subject_at(number) else {
-            unreachable!()
-        };
-        Ok((number, subject, spare.split_off(1, 0)))
+        match lobby.lock(rt).view() {
+            Some(view) => Ok(view),
+            None => Err(HallFault::NoPlace),
+        }
     }
 
-    /// Gives a view of the policies. H3 where the hall is closed, H2 where all views are given.
-    pub(crate) fn view(&mut self) -> Result<View<L>, HallFault>
-        ensures list { IfOk result (λ view. view ≡ self.old.publisher) }
-        ensures begins { IfOk result (λ view. slice_get view 0 ≡ Some L.opening.base.decider) }
-        ensures fewer { OnOk result (self.old.views_left ≡ self.new.views_left + 1) }
-        ensures err { OnErr result (self.new.views_left ≡ self.old.views_left) }
-    {
-        let Guarded {
-            publisher,
-            views_left,
-            closed,
-            ..
-        } = self;
-        if *closed {
+    /// How many answers lie in the lobby. H3 where the hall is closed.
+    pub(crate) fn untaken<R: Wait + Drop, W: Wait>(
+        &self,
+        rt: &W,
+        lobby: &Mutex<Lobby<L, R, A>>,
+    ) -> Result<u64, HallFault> {
+        if self.closed {
             return Err(HallFault::Closed);
         }
-        if *views_left == 0 {
-            return Err(HallFault::NoPlace);
-        }
-        let Some(view) = publisher.view() else {
-            return Err(HallFault::NoPlace);
-        };
-        *views_left -= 1;
-        Ok(view)
+        let told = lobby.lock(rt).tray.told();
+        Ok(told.saturating_sub(self.chronicle.len()))
     }
 
     /// Drops a search that is still open. Returns whether it was opened.
@@ -302,7 +215,7 @@ impl<L: HallName, R: Wait + Drop, A: Allocator> Guarded<L, R, A> {
     }
 }
 
-impl<L: HallName, R: Wait + Drop, A: Allocator> Guarded<L, R, A> {
+impl<L: HallName, A: Allocator> Guarded<L, A> {
     /// A fact for callers, without effect: all records are one legal trail, from what the hall was
     /// opened with.
     pub(crate) fn sound(&self)
@@ -312,11 +225,18 @@ impl<L: HallName, R: Wait + Drop, A: Allocator> Guarded<L, R, A> {
         self.chronicle.sound();
     }
 
-    /// How many records there are, with those that were rolled out.
-    pub(crate) fn record_count(&self) -> u64
-        ensures { result ≡ length self.now.chronicle.records }
+    /// How many records there are, with those that were rolled out and those in the tray.
+    pub(crate) fn record_count<R: Wait + Drop, W: Wait>(
+        &self,
+        rt: &W,
+        lobby: &Mutex<Lobby<L, R, A>>,
+    ) -> u64
+        ensures { IsCounted L.opening result }
     {
-        self.chronicle.len()
+        let lobby = lobby.lock(rt);
+        let lobby = &*lobby;
+        lobby.tray.sound(rt, &self.seen, &self.chronicle);
+        lobby.tray.told()
     }
 
     /// How many seats were given.
@@ -354,11 +274,13 @@ impl<L: HallName, R: Wait + Drop, A: Allocator> Guarded<L, R, A> {
     /// Closes the hall, and takes the seats' shares back. C1 where the receipts of a seat are not
     /// its records; C2 where fewer or more seats are handed in than were given, or they were handed
     /// in before. A fault returns the seats.
-    pub(crate) fn settle<'h>(
+    pub(crate) fn settle<'h, R: Wait + Drop>(
         &mut self,
+        lobby: &mut Lobby<L, R, A>,
         seats: Vec<Seat<'h, L, R, A>, A>,
     ) -> Result<Closed, (CloseFault, Vec<Seat<'h, L, R, A>, A>)>
-        requires { L.parts ≡ LEDGER_PARTS }
+        requires parts { L.parts ≡ LEDGER_PARTS }
+        requires level { lobby.old.tray ≡ empty_at self.old.seen }
         ensures same { self.new.chronicle ≡ self.old.chronicle }
         ensures kept { IfOk result
             (λ _. All (IsKeptBy self.old.chronicle.records) seats.entry.items) }
@@ -373,7 +295,6 @@ impl<L: HallName, R: Wait + Drop, A: Allocator> Guarded<L, R, A> {
     {
         let Guarded {
             chronicle,
-            book,
             spare,
             closed,
             gathered,
@@ -390,14 +311,87 @@ impl<L: HallName, R: Wait + Drop, A: Allocator> Guarded<L, R, A> {
             seats: seats.len(),
         };
         gather(spare, seats);
-        book.audit(spare);
+        lobby.tray.audit(spare);
         *closed = true;
         *gathered = account.seats > 0;
         Ok(account)
     }
 }
 
-impl<L: HallName, R: Wait + Drop, A: Allocator + Copy> Guarded<L, R, A> {
+impl<L: HallName, A: Allocator + Copy> Guarded<L, A> {
+    /// Takes in the answers that lie in the tray. X10 where the trail is full, X12 where an
+    /// allocation is refused; what was not taken in stays in the tray.
+    pub(crate) fn take_in<R: Wait + Drop, W: Wait>(
+        &mut self,
+        rt: &W,
+        lobby: &mut Lobby<L, R, A>,
+    ) -> Result<(), Fault>
+        ensures level { OnOk result (lobby.new.tray ≡ empty_at self.new.seen) }
+        ensures same { self.new.chronicle
+            ≡ record self.old.chronicle { records = self.new.chronicle.records } }
+        ensures closed { self.new.closed ≡ self.old.closed }
+    {
+        let Guarded {
+            chronicle,
+            list,
+            seen,
+            ..
+        } = self;
+        lobby.take_in(rt, list, seen, chronicle)
+    }
+
+    /// Gives a seat: its number, the subject of this name, and a part of the ledger. H3 where the
+    /// hall is closed, H5 where an allocation is refused, H1 where there is no such subject, H2 where
+    /// all seats are given.
+    pub(crate) fn seat<R: Wait + Drop, W: Wait>(
+        &mut self,
+        rt: &W,
+        lobby: &Mutex<Lobby<L, R, A>>,
+        name: Name,
+    ) -> Result<(u32, Subject, Share<L>), HallFault>
+        ensures next { IfOk result (λ given. given.0 ≡ length self.old.chronicle.seats + 1) }
+        ensures few { IfOk result (λ given. given.0 ≤ SEAT_LIMIT) }
+        ensures named { IfOk result (λ given. subject_named name L.opening.subjects ≡ Some given.1) }
+        ensures share { IfOk result (λ given. (given.2.parts ≡ 1) × (given.2.amount ≡ 0)) }
+    {
+        if self.closed {
+            return Err(HallFault::Closed);
+        }
+        let mut lobby = lobby.lock(rt);
+        let lobby = &mut *lobby;
+        self.take_in(rt, lobby)?;
+        self.seat_in(rt, lobby, name)
+    }
+
+    /// Gives a seat of a hall that is not closed.
+    fn seat_in<R: Wait + Drop, W: Wait>(
+        &mut self,
+        rt: &W,
+        lobby: &mut Lobby<L, R, A>,
+        name: Name,
+    ) -> Result<(u32, Subject, Share<L>), HallFault>
+        requires level { lobby.old.tray ≡ empty_at self.old.seen }
+        requires open { self.old.closed ≡ false }
+        ensures next { IfOk result (λ given. given.0 ≡ length self.old.chronicle.seats + 1) }
+        ensures few { IfOk result (λ given. given.0 ≤ SEAT_LIMIT) }
+        ensures named { IfOk result (λ given. subject_named name L.opening.subjects ≡ Some given.1) }
+        ensures share { IfOk result (λ given. (given.2.parts ≡ 1) × (given.2.amount ≡ 0)) }
+    {
+        let Guarded {
+            chronicle,
+            list,
+            seen,
+            spare,
+            ..
+        } = self;
+        let number = chronicle.seat(name)?;
+        lobby.go_on(rt, list, seen, chronicle);
+        let Ok(subject) = chronicle.subject_at(number) else {
+            unreachable!()
+        };
+        Ok((number, subject, spare.split_off(1, 0)))
+    }
+
     /// Opens a search.
     fn open_search(&mut self, seat: u32, window: Shape) -> Result<u64, Fault> {
         self.chronicle.open_search(seat, window)
@@ -481,22 +475,23 @@ impl<L: HallName, R: Wait + Drop, A: Allocator + Copy> Guarded<L, R, A> {
         ensures few { IfOk result (λ base. length base.features ≤ FEATURE_LIMIT) }
         ensures edition { IfOk result (λ base. 0 < base.decider.edition) }
     {
-        let _edition = self.publisher.edition();
         Ok(self.chronicle.present()?)
     }
 
     /// Finishes a search of a seat of this subject for a window. The record is counted in the
     /// seat's share.
-    fn finish<W: Wait>(
+    fn finish<R: Wait + Drop, W: Wait>(
         &mut self,
         rt: &W,
+        lobby: &mut Lobby<L, R, A>,
         seat: u32,
         subject: &Subject,
         share: &mut Share<L>,
         number: u64,
         window: &Shape,
     ) -> Result<(Answer<A>, Arc<Record<A>, A>), Fault>
-        requires { 0 < share.old.parts }
+        requires parts { 0 < share.old.parts }
+        requires level { lobby.old.tray ≡ empty_at self.old.seen }
         ensures subject { IfOk result (λ done. done.0.subject ≡ subject.now) }
         ensures window { IfOk result (λ done. done.0.window ≡ window.now) }
         ensures shown { IfOk result (λ done. IsAnswer done.0) }
@@ -508,20 +503,75 @@ impl<L: HallName, R: Wait + Drop, A: Allocator + Copy> Guarded<L, R, A> {
     {
         let Guarded {
             chronicle,
-            book,
+            list,
+            seen,
             ..
         } = self;
         is_seat_of(chronicle, seat, subject)?;
         let answer = chronicle.finish(seat, number, window)?;
         let _shown = answer.rows();
-        Ok((answer, receipt(rt, chronicle, book, share)))
+        let receipt = lobby.note(rt, list, seen, chronicle, share);
+        Ok((answer, receipt))
     }
 
-    /// Answers a whole search of a seat of this subject for a window, in one event. The record is
-    /// counted in the seat's share.
-    pub(crate) fn search_whole<W: Wait>(
+    /// Makes the answer to a whole search of a seat of this subject for a window, which changes
+    /// nothing, and its record.
+    fn answer(
+        &self,
+        seat: u32,
+        subject: &Subject,
+        window: &Shape,
+    ) -> Result<(Answer<A>, Arc<Record<A>, A>), Fault>
+        ensures subject { IfOk result (λ made. made.0.subject ≡ subject.now) }
+        ensures window { IfOk result (λ made. made.0.window ≡ window.now) }
+        ensures shown { IfOk result (λ made. IsAnswer made.0) }
+        ensures entry { IfOk result
+            (λ made. arc_value made.1 ≡ record { seat = seat; deed = told_answer made.0 }) }
+        ensures legal { IfOk result
+            (λ made. AreAnswersAt (last_or None self.now.seen) (arc_value made.1 ∷ [])) }
+    {
+        is_seat_of(&self.chronicle, seat, subject)?;
+        let (answer, entry) = self.chronicle.answer(seat, window)?;
+        let _shown = answer.rows();
+        Ok((answer, entry))
+    }
+
+    /// Answers a whole search of a seat of this subject for a window, in one event, beside others
+    /// who read. The record is put down in the tray, and counted in the seat's share. `More` where
+    /// it cannot be put down there: the search is to be made by `search_whole` then.
+    pub(crate) fn search_beside<R: Wait + Drop, W: Wait>(
+        &self,
+        rt: &W,
+        lobby: &Mutex<Lobby<L, R, A>>,
+        seat: u32,
+        subject: &Subject,
+        share: &mut Share<L>,
+        window: &Shape,
+    ) -> Result<(Answer<A>, Arc<Record<A>, A>), Unfinished>
+        requires { 0 < share.old.parts }
+        ensures subject { IfOk result (λ done. done.0.subject ≡ subject.now) }
+        ensures window { IfOk result (λ done. done.0.window ≡ window.now) }
+        ensures shown { IfOk result (λ done. IsAnswer done.0) }
+        ensures receipt { IfOk result
+            (λ done. arc_value done.1 ≡ record { seat = seat; deed = told_answer done.0 }) }
+        ensures amount { OnOk result (share.new.amount ≡ share.old.amount + 1) }
+        ensures err { OnErr result (share.new.amount ≡ share.old.amount) }
+        ensures parts { share.new.parts ≡ share.old.parts }
+    {
+        let (answer, entry) = self.answer(seat, subject, window)?;
+        let receipt = another_owner(rt, &entry);
+        match lobby.lock(rt).put(&self.seen, share, entry) {
+            Ok(()) => Ok((answer, receipt)),
+            Err(_) => Err(Unfinished::More),
+        }
+    }
+
+    /// Answers a whole search of a seat of this subject for a window, in one event, while nobody
+    /// else reads. The record is counted in the seat's share.
+    pub(crate) fn search_whole<R: Wait + Drop, W: Wait>(
         &mut self,
         rt: &W,
+        lobby: &Mutex<Lobby<L, R, A>>,
         seat: u32,
         subject: &Subject,
         share: &mut Share<L>,
@@ -537,22 +587,28 @@ impl<L: HallName, R: Wait + Drop, A: Allocator + Copy> Guarded<L, R, A> {
         ensures err { OnErr result (share.new.amount ≡ share.old.amount) }
         ensures parts { share.new.parts ≡ share.old.parts }
     {
+        let mut lobby = lobby.lock(rt);
+        let lobby = &mut *lobby;
+        self.take_in(rt, lobby)?;
         let Guarded {
             chronicle,
-            book,
+            list,
+            seen,
             ..
         } = self;
         is_seat_of(chronicle, seat, subject)?;
         let answer = chronicle.search(seat, window)?;
         let _shown = answer.rows();
-        Ok((answer, receipt(rt, chronicle, book, share)))
+        let receipt = lobby.note(rt, list, seen, chronicle, share);
+        Ok((answer, receipt))
     }
 
     /// Goes on with a search of a seat of this subject for a window, with so many events at most,
     /// its finish among them.
-    pub(crate) fn search_on<W: Wait>(
+    pub(crate) fn search_on<R: Wait + Drop, W: Wait>(
         &mut self,
         rt: &W,
+        lobby: &Mutex<Lobby<L, R, A>>,
         seat: u32,
         subject: &Subject,
         share: &mut Share<L>,
@@ -571,23 +627,28 @@ impl<L: HallName, R: Wait + Drop, A: Allocator + Copy> Guarded<L, R, A> {
         ensures parts { share.new.parts ≡ share.old.parts }
     {
         let number = self.visit_up_to(seat, window, searching, events)?;
-        match self.finish(rt, seat, subject, share, number, window) {
+        let mut lobby = lobby.lock(rt);
+        let lobby = &mut *lobby;
+        self.take_in(rt, lobby)?;
+        match self.finish(rt, lobby, seat, subject, share, number, window) {
             Ok(done) => Ok(done),
             Err(fault) => Err(Unfinished::Refused(fault)),
         }
     }
 
     /// Commits a list of a seat of this subject. The record is counted in the seat's share.
-    fn commit<W: Wait>(
+    fn commit<R: Wait + Drop, W: Wait>(
         &mut self,
         rt: &W,
+        lobby: &mut Lobby<L, R, A>,
         seat: u32,
         subject: &Subject,
         share: &mut Share<L>,
         number: u64,
         changes: &[Change],
     ) -> Result<(Outcome, Arc<Record<A>, A>), Fault>
-        requires { 0 < share.old.parts }
+        requires parts { 0 < share.old.parts }
+        requires level { lobby.old.tray ≡ empty_at self.old.seen }
         ensures judged { IfOk result (λ done. IsOutcome subject.now changes.now done.0) }
         ensures receipt { IfOk result
             (λ done. arc_value done.1
@@ -598,19 +659,22 @@ impl<L: HallName, R: Wait + Drop, A: Allocator + Copy> Guarded<L, R, A> {
     {
         let Guarded {
             chronicle,
-            book,
+            list,
+            seen,
             ..
         } = self;
         is_seat_of(chronicle, seat, subject)?;
         let outcome = chronicle.commit(seat, number, changes)?;
-        Ok((outcome, receipt(rt, chronicle, book, share)))
+        let receipt = lobby.note(rt, list, seen, chronicle, share);
+        Ok((outcome, receipt))
     }
 
     /// Goes on with a list of a seat of this subject, with so many events at most, its commit among
     /// them.
-    pub(crate) fn commit_on<W: Wait>(
+    pub(crate) fn commit_on<R: Wait + Drop, W: Wait>(
         &mut self,
         rt: &W,
+        lobby: &Mutex<Lobby<L, R, A>>,
         seat: u32,
         subject: &Subject,
         share: &mut Share<L>,
@@ -628,7 +692,10 @@ impl<L: HallName, R: Wait + Drop, A: Allocator + Copy> Guarded<L, R, A> {
         ensures parts { share.new.parts ≡ share.old.parts }
     {
         let number = self.place_up_to(seat, changes, committing, events)?;
-        match self.commit(rt, seat, subject, share, number, changes) {
+        let mut lobby = lobby.lock(rt);
+        let lobby = &mut *lobby;
+        self.take_in(rt, lobby)?;
+        match self.commit(rt, lobby, seat, subject, share, number, changes) {
             Ok(done) => Ok(done),
             Err(fault) => Err(Unfinished::Refused(fault)),
         }
@@ -636,11 +703,12 @@ impl<L: HallName, R: Wait + Drop, A: Allocator + Copy> Guarded<L, R, A> {
 
     /// Puts a document in force for a seat, publishes it, and returns the list that ends with it.
     /// The record is counted in the seat's share. X1, X7, X8 or X10 as the world refuses the event;
-    /// then H6 where there is no memory for the decider, and X12 where there is none for the event.
-    /// After a fault nothing is published.
-    pub(crate) fn govern<W: Wait>(
+    /// then H6 where there is no memory for the decider, and X12 where there is none for the answers
+    /// that lie in the lobby, or for the event. After a fault nothing is published.
+    pub(crate) fn govern<R: Wait + Drop, W: Wait>(
         &mut self,
         rt: &W,
+        lobby: &Mutex<Lobby<L, R, A>>,
         heap: Global,
         seat: u32,
         share: &mut Share<L>,
@@ -659,21 +727,37 @@ impl<L: HallName, R: Wait + Drop, A: Allocator + Copy> Guarded<L, R, A> {
         ensures err { OnErr result (share.new.amount ≡ share.old.amount) }
         ensures parts { share.new.parts ≡ share.old.parts }
     {
+        let decider = next_decider(&self.chronicle, heap, seat, document)?;
+        let mut lobby = lobby.lock(rt);
+        let lobby = &mut *lobby;
+        self.take_in(rt, lobby)?;
         let Guarded {
             chronicle,
-            publisher,
-            book,
+            list,
+            seen,
             ..
         } = self;
-        let decider = next_decider(chronicle, heap, seat, document)?;
         let published = another(&decider)?;
         chronicle.govern_by(seat, decider)?;
-        let edition = publisher.publish(published);
-        Ok((edition, receipt(rt, chronicle, book, share)))
+        Ok(lobby.publish(rt, list, seen, chronicle, share, published))
     }
 
     /// Takes the present trail out, and returns it. All its records stay in the chronicle.
-    pub(crate) fn roll(&mut self, heap: Global, seat: u32) -> Result<Arc<Rolled<A>, A>, HallFault> {
-        Ok(self.chronicle.roll(heap, seat)?)
+    pub(crate) fn roll<R: Wait + Drop, W: Wait>(
+        &mut self,
+        rt: &W,
+        lobby: &Mutex<Lobby<L, R, A>>,
+        heap: Global,
+        seat: u32,
+    ) -> Result<Arc<Rolled<A>, A>, HallFault> {
+        let mut lobby = lobby.lock(rt);
+        let lobby = &mut *lobby;
+        // Without memory for them they come in the next piece, if there is memory for this one.
+        let _ = self.take_in(rt, lobby);
+        let rolled = self.chronicle.roll(heap, seat)?;
+        lobby
+            .tray
+            .fill_at(self.chronicle.len().saturating_add(self.trail_limit));
+        Ok(rolled)
     }
 }

@@ -12,8 +12,10 @@ ghost use Rattle.hall.specs.Seats.{receipts_of};
 use crate::closing::{Closed, LeaveFault, Left};
 use crate::faults::{CloseFault, HallFault, OpenFault};
 use crate::guarded::{Guarded, LEDGER_PARTS, SLOTS_AT_ONCE};
+use crate::lobby::Lobby;
 use crate::names::{HallName, Unnamed};
 use crate::seats::Seat;
+use answer_tray::{ANSWER_LIMIT, Tray};
 use audit_trail::RECORD_LIMIT;
 use chronicle::Chronicle;
 use feature_store::FEATURE_LIMIT;
@@ -22,7 +24,8 @@ use memory::another;
 use policy_documents::Document;
 use published_policies::{EmptyList, ListName, Publisher, View};
 use std::alloc::{Allocator, Global};
-use std::sync::{Condvar, Mutex, Wait};
+use std::mem;
+use std::sync::{Condvar, Mutex, RwLock, Wait};
 use world::{Base, Limits, ROLLED_LIMIT, STEP_LIMIT, Starts};
 
 /// The most views that a hall gives.
@@ -30,6 +33,9 @@ pub const VIEW_LIMIT: usize = 1_024;
 
 /// The most critical sections in which `tend_round` tends what is due.
 const SECTIONS: u32 = 64;
+
+/// So many answers are taken in by a round of tending: half of what the tray holds.
+const MANY_ANSWERS: u64 = ANSWER_LIMIT as u64 / 2;
 
 /// Publishes the policy with which a chronicle was opened, for this many views.
 fn publish_first<L: ListName, R: Wait + Drop, A: Allocator>(
@@ -50,11 +56,18 @@ fn publish_first<L: ListName, R: Wait + Drop, A: Allocator>(
     Ok(Publisher::open(rt, heap, list, first, readers)?)
 }
 
-/// One world that many threads share. Each event is made in a critical section of its one lock.
-/// Calls of the world are made through a seat.
+/// One world that many threads share. Each event is made in a critical section of the world's lock;
+/// a whole search, which only reads, beside others. Calls of the world are made through a seat.
+///
+/// Who takes several locks takes them in the order in which they stand here.
 #[derive(Drop)]
 pub struct Hall<L: HallName, R: Wait + Drop, A: Allocator> {
-    pub(crate) lock: Mutex<Guarded<L, R, A>>,
+    pub(crate) world: RwLock<Guarded<L, A>>,
+    /// The records of answers that the world has not taken in yet, and the published policies.
+    pub(crate) lobby: Mutex<Lobby<L, R, A>>,
+    /// Held by whoever is about to wait for one of the two below, so that it misses no end. It is true
+    /// where something has ended since the last round of tending.
+    pub(crate) waiting: Mutex<bool>,
     /// Notified when a search has ended: a list that it held back may be tried again, and a search
     /// that found as many open as may be.
     pub(crate) search_ended: Condvar,
@@ -75,7 +88,7 @@ impl<L: HallName, R: Wait + Drop, A: Allocator + Copy> Hall<L, R, A> {
         rt: R,
         alloc: A,
         heap: Global,
-        unnamed: Unnamed,
+        unnamed: Unnamed<A>,
         subjects: Subjects,
         document: Document<Global>,
         views: usize,
@@ -83,6 +96,7 @@ impl<L: HallName, R: Wait + Drop, A: Allocator + Copy> Hall<L, R, A> {
         requires name { unnamed.ledger.name ≡ L.name }
         requires parts { (unnamed.ledger.parts ≡ L.parts) × (L.parts ≡ LEDGER_PARTS) }
         requires list { unnamed.list ≡ L.book }
+        requires states { unnamed.states ≡ L.states }
         requires opening { L.opening ≡ opening_by subjects document }
         ensures ok { OnOk result (views ≤ VIEW_LIMIT) }
         ensures err { IfErr result (λ e. e.0 ≡ document) }
@@ -96,7 +110,7 @@ impl<L: HallName, R: Wait + Drop, A: Allocator + Copy> Hall<L, R, A> {
         rt: R,
         alloc: A,
         heap: Global,
-        unnamed: Unnamed,
+        unnamed: Unnamed<A>,
         subjects: Subjects,
         document: Document<Global>,
         views: usize,
@@ -105,6 +119,7 @@ impl<L: HallName, R: Wait + Drop, A: Allocator + Copy> Hall<L, R, A> {
         requires name { unnamed.ledger.name ≡ L.name }
         requires parts { (unnamed.ledger.parts ≡ L.parts) × (L.parts ≡ LEDGER_PARTS) }
         requires list { unnamed.list ≡ L.book }
+        requires states { unnamed.states ≡ L.states }
         requires opening { L.opening ≡ opening_by subjects document }
         requires records { limits.records ≤ RECORD_LIMIT }
         requires features { limits.features ≤ FEATURE_LIMIT }
@@ -125,7 +140,7 @@ impl<L: HallName, R: Wait + Drop, A: Allocator + Copy> Hall<L, R, A> {
             Ok(chronicle) => chronicle,
             Err((document, fault)) => return Err((document, OpenFault::Core(fault))),
         };
-        match Hall::over(rt, alloc, heap, unnamed, chronicle, views) {
+        match Hall::over(rt, alloc, heap, unnamed, chronicle, views, limits.records) {
             Ok(hall) => Ok(hall),
             Err(fault) => Err((copy, fault)),
         }
@@ -140,7 +155,7 @@ impl<L: HallName, R: Wait + Drop, A: Allocator + Copy> Hall<L, R, A> {
         rt: R,
         alloc: A,
         heap: Global,
-        unnamed: Unnamed,
+        unnamed: Unnamed<A>,
         subjects: Subjects,
         base: Base<A>,
         rolled: u64,
@@ -150,6 +165,7 @@ impl<L: HallName, R: Wait + Drop, A: Allocator + Copy> Hall<L, R, A> {
         requires name { unnamed.ledger.name ≡ L.name }
         requires parts { (unnamed.ledger.parts ≡ L.parts) × (L.parts ≡ LEDGER_PARTS) }
         requires list { unnamed.list ≡ L.book }
+        requires states { unnamed.states ≡ L.states }
         requires opening { L.opening ≡ record { subjects = subjects; base = base } }
         requires sorted { IsSortedById base.features }
         requires few { length base.features ≤ FEATURE_LIMIT }
@@ -171,29 +187,45 @@ impl<L: HallName, R: Wait + Drop, A: Allocator + Copy> Hall<L, R, A> {
             Ok(chronicle) => chronicle,
             Err(fault) => return Err(OpenFault::Core(fault)),
         };
-        Hall::over(rt, alloc, heap, unnamed, chronicle, views)
+        Hall::over(rt, alloc, heap, unnamed, chronicle, views, limits.records)
     }
 
-    /// The hall of a chronicle that was just opened.
+    /// The hall of a chronicle that was just opened, whose trail takes so many records.
     fn over(
         rt: R,
         alloc: A,
         heap: Global,
-        unnamed: Unnamed,
+        unnamed: Unnamed<A>,
         chronicle: Chronicle<A>,
         views: usize,
+        records: u32,
     ) -> Result<Self, OpenFault>
         requires name { unnamed.ledger.name ≡ L.name }
         requires parts { (unnamed.ledger.parts ≡ L.parts) × (L.parts ≡ LEDGER_PARTS) }
         requires list { unnamed.list ≡ L.book }
+        requires states { unnamed.states ≡ L.states }
         requires opened { chronicle ≡ opened_with L.opening }
         requires edition { 0 < L.opening.base.decider.edition }
         requires views { views ≤ VIEW_LIMIT }
     {
-        let Unnamed { ledger, list } = unnamed;
+        let Unnamed {
+            ledger,
+            list,
+            states,
+        } = unnamed;
+        let (book, spare) = ledger.open::<L>();
+        let (chronicles, nothing) = states.named::<L>();
+        let mut seen = nothing;
+        seen.grow(&rt, &chronicles, &chronicle);
         let publisher = publish_first(rt, heap, list, &chronicle, views)?;
+        let limit = u64::from(records);
+        let tray = Tray::new(alloc, seen.again(), book, limit);
+        let lobby = Lobby::new(tray, publisher, views);
+        let guarded = Guarded::new(chronicle, chronicles, seen, limit, spare);
         Ok(Hall {
-            lock: Mutex::new(Guarded::new(chronicle, publisher, views, ledger)),
+            world: RwLock::new(guarded),
+            lobby: Mutex::new(lobby),
+            waiting: Mutex::new(false),
             search_ended: Condvar::new(),
             transaction_ended: Condvar::new(),
             alloc,
@@ -201,15 +233,16 @@ impl<L: HallName, R: Wait + Drop, A: Allocator + Copy> Hall<L, R, A> {
         })
     }
 
-    /// Gives a seat to the subject of a name. H3 where the hall is closed, H1 where there is no
-    /// such subject, H2 where all seats are given, H5 where an allocation is refused.
+    /// Gives a seat to the subject of a name. H3 where the hall is closed, H5 with X12 where there is
+    /// no memory for the answers that lie in the lobby; then H1 where there is no such subject, H2
+    /// where all seats are given, H5 where an allocation is refused.
     pub fn seat<'h, W: Wait>(&'h self, rt: &W, name: Name) -> Result<Seat<'h, L, R, A>, HallFault>
         ensures number { IfOk result (λ seat. (0 < seat.number) × (seat.number ≤ SEAT_LIMIT)) }
         ensures named { IfOk result
             (λ seat. subject_named name L.opening.subjects ≡ Some seat.subject) }
         ensures receipts { IfOk result (λ seat. seat.receipts ≡ []) }
     {
-        let (number, subject, share) = self.lock.lock(rt).seat(name)?;
+        let (number, subject, share) = self.world.write(rt).seat(rt, &self.lobby, name)?;
         Ok(Seat {
             hall: self,
             number,
@@ -225,29 +258,38 @@ impl<L: HallName, R: Wait + Drop, A: Allocator + Copy> Hall<L, R, A> {
     pub fn view<W: Wait>(&self, rt: &W) -> Result<View<L>, HallFault>
         ensures begins { IfOk result (λ view. slice_get view 0 ≡ Some L.opening.base.decider) }
     {
-        self.lock.lock(rt).view()
+        self.world.read(rt).view(rt, &self.lobby)
     }
 
     /// Tends the slots of the index that may have something to do, as far as the events so far tell:
     /// removes what is there and no longer needed. Then, if a round over all slots is wanted, tends
     /// each slot once. Returns how many slots it has tended. A critical section tends 16 slots at
-    /// most. H3 where the hall is closed, H5 where the index's counter is at its end (S6). Takes no
-    /// memory.
+    /// most. H3 where the hall is closed, H5 where the index's counter is at its end (S6).
     ///
     /// A round over all slots is wanted if `want_round` asked for one, or if more was to be tended
-    /// than the hall has noted.
+    /// than the hall has noted. The world takes in the answers that were given meanwhile, where they
+    /// are many. Where nothing has ended since the last round, no other search waits for this one.
     pub fn tend_round<W: Wait>(&self, rt: &W) -> Result<u32, HallFault> {
+        if self.world.read(rt).untaken(rt, &self.lobby)? >= MANY_ANSWERS {
+            self.take_in(rt);
+        }
+        if !mem::replace(&mut *self.waiting.lock(rt), false) {
+            return Ok(0);
+        }
         let mut tended: u32 = 0;
         for _ in 0..SECTIONS {
-            let more = self.lock.lock(rt).tend_due()?;
+            let more = self.world.write(rt).tend_due()?;
             if more == 0 {
                 break;
             }
             tended = tended.saturating_add(more);
         }
-        let slots = self.lock.lock(rt).begin_round()?;
+        if tended >= SECTIONS * SLOTS_AT_ONCE {
+            *self.waiting.lock(rt) = true;
+        }
+        let slots = self.world.write(rt).begin_round()?;
         for first in (0..slots).step_by(SLOTS_AT_ONCE as usize) {
-            let more = self.lock.lock(rt).tend_from(first, slots)?;
+            let more = self.world.write(rt).tend_from(first, slots)?;
             tended = tended.saturating_add(more);
         }
         Ok(tended)
@@ -257,12 +299,37 @@ impl<L: HallName, R: Wait + Drop, A: Allocator + Copy> Hall<L, R, A> {
     /// `tend_round` makes it. What `tend_round` tends without it comes from a hint, which may miss a
     /// slot: so a server asks for such a round at long intervals.
     pub fn want_round<W: Wait>(&self, rt: &W) {
-        self.lock.lock(rt).want_round();
+        self.world.write(rt).want_round();
+        *self.waiting.lock(rt) = true;
+    }
+
+    /// The world takes in the answers that were given since it was changed last. Those that it cannot
+    /// take in yet wait: whoever records something next tries again.
+    pub(crate) fn take_in<W: Wait>(&self, rt: &W) {
+        let mut world = self.world.write(rt);
+        let mut lobby = self.lobby.lock(rt);
+        let _ = world.take_in(rt, &mut lobby);
+    }
+
+    /// Whether answers lie in the lobby, of a hall that is not closed.
+    pub(crate) fn holds_answers<W: Wait>(&self, rt: &W) -> bool {
+        match self.world.read(rt).untaken(rt, &self.lobby) {
+            Ok(count) => count > 0,
+            Err(_) => false,
+        }
+    }
+
+    /// Wakes whoever waits for one of the two conditions: whoever has begun to wait has let go of
+    /// the lock of those who wait.
+    pub(crate) fn wake<W: Wait>(&self, rt: &W, ended: &Condvar) {
+        *self.waiting.lock(rt) = true;
+        ended.notify_all();
     }
 
     /// Closes the hall, if all seats that were given are handed in and the receipts of each are
     /// just its records. C1 where these differ; C2 where fewer or more seats are handed in than
-    /// were given, or they were handed in before. A fault returns the seats. Takes no memory.
+    /// were given, or they were handed in before; H6 where an allocation is refused. A fault returns
+    /// the seats.
     pub fn close<'h, W: Wait>(
         &'h self,
         rt: &W,
@@ -275,14 +342,12 @@ impl<L: HallName, R: Wait + Drop, A: Allocator + Copy> Hall<L, R, A> {
             (λ closed. IsClosed L.opening closed.records closed.seats seats.entry.items) }
         ensures back { IfErr result (λ e. e.1.items ≡ seats.entry.items) }
     {
-        let mut guarded = self.lock.lock(rt);
-        guarded.sound();
-        guarded.settle(seats)
+        self.world.write(rt).close(rt, &self.lobby, seats)
     }
 
     /// Closes the hall as `close` does, and returns with its account the state that it has come to:
-    /// what the hall that follows it begins with. `State` where there is no memory for that; the
-    /// hall is then as it was. A fault returns the seats.
+    /// what the hall that follows it begins with. `State` where there is no memory for that, or for
+    /// the answers that lie in the lobby; the call may be made again. A fault returns the seats.
     pub fn leave<'h, W: Wait>(
         &'h self,
         rt: &W,
@@ -298,16 +363,7 @@ impl<L: HallName, R: Wait + Drop, A: Allocator + Copy> Hall<L, R, A> {
         ensures edition { IfOk result (λ left. 0 < left.base.decider.edition) }
         ensures back { IfErr result (λ e. e.1.items ≡ seats.entry.items) }
     {
-        let mut guarded = self.lock.lock(rt);
-        guarded.sound();
-        let base = match guarded.state() {
-            Ok(base) => base,
-            Err(fault) => return Err((LeaveFault::State(fault), seats)),
-        };
-        match guarded.settle(seats) {
-            Ok(closed) => Ok(Left { closed, base }),
-            Err((fault, seats)) => Err((LeaveFault::Close(fault), seats)),
-        }
+        self.world.write(rt).leave(rt, &self.lobby, seats)
     }
 
     /// Ends the hall, and returns the state that it has come to: what another hall can begin with.
@@ -319,13 +375,15 @@ impl<L: HallName, R: Wait + Drop, A: Allocator + Copy> Hall<L, R, A> {
         ensures edition { IfOk result (λ base. 0 < base.decider.edition) }
     {
         let Hall {
-            lock,
+            world,
+            lobby: _lobby,
+            waiting: _waiting,
             search_ended: _search_ended,
             transaction_ended: _transaction_ended,
             alloc: _,
             heap: _,
         } = self;
-        let guarded = lock.into_inner();
+        let guarded = world.into_inner();
         guarded.sound();
         guarded.state()
     }

@@ -3,16 +3,19 @@
 ghost use Rattle.std.specs.Prelude.{◌≡◌};
 
 use crate::guarded::LEDGER_PARTS;
+use chronicle::Chronicle;
 use published_policies::{EmptyList, ListName};
+use state_lists::{NewList, StatesName};
+use std::alloc::Allocator;
 use std::marker::Brand;
 use std::sync::ledger::{Blank, Ledger};
 
-/// The name of a hall: proofs know by it the hall's ledger, its list of policies, and what it was
-/// opened with. A hall, its seats, its views and its editions have it as a type parameter, so that
-/// contracts of calls which take the hall's lock can speak of the opening. It is a name for proofs,
-/// without code: a program makes an `Unnamed`, and passes it to a function that is generic in the
-/// name, which it calls at `Brand`.
-pub trait HallName: Ledger + ListName {
+/// The name of a hall: proofs know by it the hall's ledger, its list of policies, the list of its
+/// chronicles, and what it was opened with. A hall, its seats, its views and its editions have it as
+/// a type parameter, so that contracts of calls which take the hall's locks can speak of the opening.
+/// It is a name for proofs, without code: a program makes an `Unnamed`, and passes it to a function
+/// that is generic in the name, which it calls at `Brand`.
+pub trait HallName: Ledger + ListName + StatesName {
     ghost use Rattle.chronicle.specs.Chronicles.{Opening};
 
     ghost opening: { Opening };
@@ -24,23 +27,25 @@ impl HallName for Brand {
     ghost opening = { no_opening };
 }
 
-/// What proofs name a hall by: a new ledger, and a list of policies that has no policy yet. It is
-/// made before the function that opens, uses and closes the hall is called, so that this function's
-/// type parameter `L` can stand for it.
+/// What proofs name a hall by: a new ledger, a list of policies that has no policy yet, and a list
+/// of chronicles that has none. It is made before the function that opens, uses and closes the hall
+/// is called, so that this function's type parameter `L` can stand for it.
 #[derive(Drop)]
-pub struct Unnamed {
+pub struct Unnamed<A: Allocator> {
     pub ledger: Blank,
     pub list: EmptyList,
+    pub states: NewList<Chronicle<A>>,
 }
 
-impl Unnamed {
-    /// A new ledger, with the parts that a hall needs, and a new list.
+impl<A: Allocator> Unnamed<A> {
+    /// A new ledger, with the parts that a hall needs, and new lists.
     pub fn new() -> Self
         ensures { result.ledger.parts ≡ LEDGER_PARTS }
     {
         Unnamed {
             ledger: Blank::new(LEDGER_PARTS),
             list: EmptyList::new(),
+            states: NewList::new(),
         }
     }
 }

@@ -12,23 +12,21 @@ use memory::NoMemory;
 use std::alloc::Allocator;
 use std::sync::{Arc, Wait};
 
-impl<L: HallName, R: Wait + Drop, A: Allocator> Hall<L, R, A> {
+impl<L: HallName, R: Wait + Drop, A: Allocator + Copy> Hall<L, R, A> {
     /// How many records there are, with those that were rolled out.
     pub fn record_count<W: Wait>(&self, rt: &W) -> u64
         ensures { IsCounted L.opening result }
     {
-        let guarded = self.lock.lock(rt);
-        guarded.sound();
-        guarded.record_count()
+        self.world.read(rt).record_count(rt, &self.lobby)
     }
 
     /// How many seats were given.
     pub fn seat_count<W: Wait>(&self, rt: &W) -> usize
         ensures { AreGiven L.opening result }
     {
-        let guarded = self.lock.lock(rt);
-        guarded.sound();
-        guarded.seat_count()
+        let world = self.world.read(rt);
+        world.sound();
+        world.seat_count()
     }
 
     /// How many records there were when the last list was applied or policy put in force, or 0. All
@@ -36,15 +34,16 @@ impl<L: HallName, R: Wait + Drop, A: Allocator> Hall<L, R, A> {
     pub fn last_change<W: Wait>(&self, rt: &W) -> u64
         ensures { IsChangedLast L.opening result }
     {
-        let guarded = self.lock.lock(rt);
-        guarded.sound();
-        guarded.last_change()
+        let world = self.world.read(rt);
+        world.sound();
+        world.last_change()
     }
 
     /// Appends other owners of the records from a place on, in order; places are counted from 0 over
     /// all records since the hall was opened. As many are appended as there are, but at most
     /// `COPIED_AT_ONCE`, and no more than `into` has room for. A fault where one of them has as many
-    /// owners as there may be; those before it are appended. Takes no memory.
+    /// owners as there may be; those before it are appended. Answers that the world has no memory to
+    /// take in yet are not among them.
     pub fn records_from<W: Wait>(
         &self,
         rt: &W,
@@ -57,8 +56,12 @@ impl<L: HallName, R: Wait + Drop, A: Allocator> Hall<L, R, A> {
         ensures err { OnErr result ((count : ℕ) × AreCopied L.opening place count
             (map arc_value into.old.items) (map arc_value into.new.items)) }
     {
-        let guarded = self.lock.lock(rt);
-        guarded.sound();
-        guarded.copy_from(place, into)
+        if self.holds_answers(rt) {
+            self.take_in(rt);
+        }
+        let guard = self.world.read(rt);
+        let world = &*guard;
+        world.sound();
+        world.copy_from(place, into)
     }
 }

@@ -18,33 +18,35 @@ use memory::GrowVec;
 use plane::Shape;
 use std::alloc::Allocator;
 use std::sync::ledger::Share;
-use std::sync::{Arc, MutexGuard, Wait};
+use std::sync::{Arc, RwLockWriteGuard, Wait};
 use world::{Answer, Fault, TreeFault};
 
-/// Ends a call of a search that is refused. S2 waits first, in this critical section, until a search
+/// Ends a call of a search that is refused. S2 waits first, and lets the world go, until a search
 /// ends; any other fault drops the search, and wakes whoever waits for its end. Ok where the search
 /// may be tried again: it waited, and `tries` leaves one more.
-fn wait_or_give_up<L: HallName, R: Wait + Drop, A: Allocator, W: Wait>(
+fn wait_or_give_up<L: HallName, R: Wait + Drop, A: Allocator + Copy, W: Wait>(
     rt: &W,
     hall: &Hall<L, R, A>,
-    guarded: MutexGuard<'_, Guarded<L, R, A>>,
+    world: RwLockWriteGuard<'_, Guarded<L, A>>,
     seat: u32,
     searching: Searching,
     fault: Fault,
     tries: &mut u32,
 ) -> Result<(), HallFault> {
     if let Fault::Tree(TreeFault::TooMany) = &fault {
-        drop(hall.search_ended.wait(rt, guarded));
+        let waiting = hall.waiting.lock(rt);
+        drop(world);
+        drop(hall.search_ended.wait(rt, waiting));
         *tries = tries.saturating_sub(1);
         if *tries > 0 {
             return Ok(());
         }
     } else {
-        let mut guarded = guarded;
-        let ended = guarded.drop_search(seat, searching);
-        drop(guarded);
+        let mut world = world;
+        let ended = world.drop_search(seat, searching);
+        drop(world);
         if ended {
-            hall.search_ended.notify_all();
+            hall.wake(rt, &hall.search_ended);
         }
     }
     Err(HallFault::from(fault))
@@ -75,16 +77,17 @@ fn searched_by_steps<L: HallName, R: Wait + Drop, A: Allocator + Copy, W: Wait, 
     let mut searching = Searching::New;
     let mut tries = TRY_LIMIT;
     for _ in rt.forever() {
-        let mut guarded = hall.lock.lock(rt);
-        match guarded.search_on(rt, seat, subject, share, window, &mut searching, 1) {
+        let mut world = hall.world.write(rt);
+        let lobby = &hall.lobby;
+        match world.search_on(rt, lobby, seat, subject, share, window, &mut searching, 1) {
             Ok(done) => {
-                drop(guarded);
-                hall.search_ended.notify_all();
+                drop(world);
+                hall.wake(rt, &hall.search_ended);
                 return Ok(done);
             }
-            Err(Unfinished::More) => drop(guarded),
+            Err(Unfinished::More) => drop(world),
             Err(Unfinished::Refused(fault)) => {
-                wait_or_give_up(rt, hall, guarded, seat, searching, fault, &mut tries)?;
+                wait_or_give_up(rt, hall, world, seat, searching, fault, &mut tries)?;
             }
         }
         pause.between();
@@ -92,8 +95,9 @@ fn searched_by_steps<L: HallName, R: Wait + Drop, A: Allocator + Copy, W: Wait, 
     unreachable!()
 }
 
-/// Searches a window for a seat of this subject: as a whole, in one event, unless the pause wants
-/// steps. The record is counted in the seat's share.
+/// Searches a window for a seat of this subject: as a whole, in one event beside others who read,
+/// unless the pause wants steps; where its record cannot lie in the tray, while nobody else reads.
+/// The record is counted in the seat's share.
 fn searched<L: HallName, R: Wait + Drop, A: Allocator + Copy, W: Wait, P: Pause>(
     rt: &W,
     hall: &Hall<L, R, A>,
@@ -116,11 +120,21 @@ fn searched<L: HallName, R: Wait + Drop, A: Allocator + Copy, W: Wait, P: Pause>
     if pause.wants_steps() {
         return searched_by_steps(rt, hall, seat, subject, share, window, pause);
     }
-    let done = hall
-        .lock
-        .lock(rt)
-        .search_whole(rt, seat, subject, share, window);
-    match done {
+    let lobby = &hall.lobby;
+    let beside = hall
+        .world
+        .read(rt)
+        .search_beside(rt, lobby, seat, subject, share, window);
+    match beside {
+        Ok(done) => return Ok(done),
+        Err(Unfinished::Refused(fault)) => return Err(HallFault::from(fault)),
+        Err(Unfinished::More) => {}
+    }
+    let alone = hall
+        .world
+        .write(rt)
+        .search_whole(rt, lobby, seat, subject, share, window);
+    match alone {
         Ok(done) => Ok(done),
         Err(fault) => Err(HallFault::from(fault)),
     }
@@ -128,7 +142,7 @@ fn searched<L: HallName, R: Wait + Drop, A: Allocator + Copy, W: Wait, P: Pause>
 
 impl<'h, L: HallName, R: Wait + Drop, A: Allocator + Copy> Seat<'h, L, R, A> {
     /// Searches a window: lists what meets it and the seat's subject may read. The search is one
-    /// event, in one critical section, unless the pause wants steps. H6 where there is no memory for
+    /// event, beside the searches of others, unless the pause wants steps. H6 where there is no memory for
     /// the receipt's place; H5 with S7 where the search takes too many steps, X10 where the trail is
     /// full, X12 where an allocation is refused. A fault leaves the seat unchanged.
     ///

@@ -119,7 +119,14 @@ fn one_more<'h, L: HallName, H: Wait + Drop, R: Wait + Abort>(
     is_answered
 }
 
-fn crowded_in<L, H, R>(rt: &R, own: H, heap: Global, unnamed: Unnamed, searches: bool, most: usize)
+fn crowded_in<L, H, R>(
+    rt: &R,
+    own: H,
+    heap: Global,
+    unnamed: Unnamed<Global>,
+    searches: bool,
+    most: usize,
+)
 where
     L: HallName + Send + Sync,
     H: Wait + Drop + Send,
@@ -127,6 +134,7 @@ where
     requires name { unnamed.ledger.name ≡ L.name }
     requires parts { (unnamed.ledger.parts ≡ L.parts) × (L.parts ≡ LEDGER_PARTS) }
     requires list { unnamed.list ≡ L.book }
+    requires states { unnamed.states ≡ L.states }
 {
     let hall = opened::<L, H>(rt, own, heap, unnamed, 0);
     let mut seats = Vec::new(heap);

@@ -94,12 +94,13 @@ pub fn opened<L: HallName, H: Wait + Drop>(
     rt: &impl Abort,
     own: H,
     heap: Global,
-    unnamed: Unnamed,
+    unnamed: Unnamed<Global>,
     views: usize,
 ) -> Hall<L, H, Global>
     requires name { unnamed.ledger.name ≡ L.name }
     requires parts { (unnamed.ledger.parts ≡ L.parts) × (L.parts ≡ LEDGER_PARTS) }
     requires list { unnamed.list ≡ L.book }
+    requires states { unnamed.states ≡ L.states }
 {
     opened_in(rt, own, heap, heap, unnamed, views)
 }
@@ -110,12 +111,13 @@ pub fn opened_in<L: HallName, H: Wait + Drop, A: Allocator + Copy>(
     own: H,
     alloc: A,
     heap: Global,
-    unnamed: Unnamed,
+    unnamed: Unnamed<A>,
     views: usize,
 ) -> Hall<L, H, A>
     requires name { unnamed.ledger.name ≡ L.name }
     requires parts { (unnamed.ledger.parts ≡ L.parts) × (L.parts ≡ LEDGER_PARTS) }
     requires list { unnamed.list ≡ L.book }
+    requires states { unnamed.states ≡ L.states }
 {
     let document = document(rt, heap, OPEN);
     match Hall::open(own, alloc, heap, unnamed, subjects(rt), document, views) {
@@ -129,12 +131,13 @@ pub fn opened_within<L: HallName, H: Wait + Drop>(
     rt: &impl Abort,
     own: H,
     heap: Global,
-    unnamed: Unnamed,
+    unnamed: Unnamed<Global>,
     limits: Limits,
 ) -> Hall<L, H, Global>
     requires name { unnamed.ledger.name ≡ L.name }
     requires parts { (unnamed.ledger.parts ≡ L.parts) × (L.parts ≡ LEDGER_PARTS) }
     requires list { unnamed.list ≡ L.book }
+    requires states { unnamed.states ≡ L.states }
     requires records { limits.records ≤ RECORD_LIMIT }
     requires features { limits.features ≤ FEATURE_LIMIT }
     requires steps { limits.steps ≤ STEP_LIMIT }
@@ -204,6 +207,24 @@ pub fn rows<L: HallName, H: Wait + Drop, A: Allocator + Copy, P: Pause>(
     match seat.search(rt, window, pause) {
         Ok(answer) => Some(answer.rows().len()),
         Err(_) => None,
+    }
+}
+
+/// Rolls a piece, checks that it begins with the record of this number, and returns the number
+/// after its last one.
+pub fn roll_on<L: HallName, H: Wait + Drop, R: Wait + Abort>(
+    rt: &R,
+    chief: &mut Seat<'_, L, H, Global>,
+    first: u64,
+) -> u64 {
+    match chief.roll(rt) {
+        Ok(piece) => {
+            let count = piece.trail().len();
+            assert_eq!(rt; piece.trail().first(), first);
+            assert_eq!(rt; piece.lines().len(), count as usize);
+            first.saturating_add(u64::from(count))
+        }
+        Err(fault) => panic!(rt; "not rolled: {fault}"),
     }
 }
 

@@ -120,10 +120,11 @@ fn held_sixty_four_times_in<
     L: HallName + Send + Sync,
     H: Wait + Drop + Send,
     R: Threads + Wait + Abort + Sync,
->(rt: &R, own: H, heap: Global, unnamed: Unnamed)
+>(rt: &R, own: H, heap: Global, unnamed: Unnamed<Global>)
     requires name { unnamed.ledger.name ≡ L.name }
     requires parts { (unnamed.ledger.parts ≡ L.parts) × (L.parts ≡ LEDGER_PARTS) }
     requires list { unnamed.list ≡ L.book }
+    requires states { unnamed.states ≡ L.states }
 {
     let hall = opened::<L, H>(rt, own, heap, unnamed, 0);
     let mut first = seat(rt, &hall, "north");

@@ -28,6 +28,8 @@ mod tending_tests;
 #[cfg(test)]
 mod thread_tests;
 #[cfg(test)]
+mod tray_tests;
+#[cfg(test)]
 mod view_tests;
 #[cfg(test)]
 mod waiting_tests;

@@ -19,11 +19,12 @@ fn first_life<L: HallName, H: Wait + Drop, R: Wait + Abort>(
     rt: &R,
     own: H,
     heap: Global,
-    unnamed: Unnamed,
+    unnamed: Unnamed<Global>,
 ) -> Base<Global>
     requires name { unnamed.ledger.name ≡ L.name }
     requires parts { (unnamed.ledger.parts ≡ L.parts) × (L.parts ≡ LEDGER_PARTS) }
     requires list { unnamed.list ≡ L.book }
+    requires states { unnamed.states ≡ L.states }
 {
     let hall: Hall<L, H, Global> = opened(rt, own, heap, unnamed, 0);
     let mut north = seat(rt, &hall, "north");
@@ -47,12 +48,13 @@ fn second_life<L: HallName, H: Wait + Drop, R: Wait + Abort>(
     rt: &R,
     own: H,
     heap: Global,
-    unnamed: Unnamed,
+    unnamed: Unnamed<Global>,
     base: Base<Global>,
 )
     requires name { unnamed.ledger.name ≡ L.name }
     requires parts { (unnamed.ledger.parts ≡ L.parts) × (L.parts ≡ LEDGER_PARTS) }
     requires list { unnamed.list ≡ L.book }
+    requires states { unnamed.states ≡ L.states }
 {
     let limits = Limits::GREATEST;
     let subjects = subjects(rt);
@@ -115,12 +117,13 @@ fn refused_in<L: HallName, H: Wait + Drop, R: Wait + Abort>(
     rt: &R,
     own: H,
     heap: Global,
-    unnamed: Unnamed,
+    unnamed: Unnamed<Global>,
     base: Base<Global>,
 )
     requires name { unnamed.ledger.name ≡ L.name }
     requires parts { (unnamed.ledger.parts ≡ L.parts) × (L.parts ≡ LEDGER_PARTS) }
     requires list { unnamed.list ≡ L.book }
+    requires states { unnamed.states ≡ L.states }
 {
     let limits = Limits::GREATEST;
     let subjects = subjects(rt);

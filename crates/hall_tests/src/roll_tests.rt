@@ -1,7 +1,7 @@
 //! Rolls while another thread works in the hall.
 ghost use Rattle.std.specs.Prelude.{◌≡◌};
 
-use crate::halls::{TURNS, applied, close_two, opened, road, rows, seat, square};
+use crate::halls::{TURNS, applied, close_two, opened, road, roll_on, rows, seat, square};
 use hall::{HallName, LEDGER_PARTS, NoPause, Seat, Unnamed};
 use std::alloc::Global;
 use std::marker::Brand;
@@ -57,24 +57,6 @@ fn wait_for_rounds(rt: &impl Abort, rounds: &AtomicU64, least: u64) {
     panic!(rt; "the editor does not work");
 }
 
-/// Rolls a piece, checks that it begins with the record of this number, and returns the number
-/// after its last one.
-fn roll_on<L: HallName, H: Wait + Drop, R: Wait + Abort>(
-    rt: &R,
-    chief: &mut Seat<'_, L, H, Global>,
-    first: u64,
-) -> u64 {
-    match chief.roll(rt) {
-        Ok(piece) => {
-            let count = piece.trail().len();
-            assert_eq!(rt; piece.trail().first(), first);
-            assert_eq!(rt; piece.lines().len(), count as usize);
-            first.saturating_add(u64::from(count))
-        }
-        Err(fault) => panic!(rt; "not rolled: {fault}"),
-    }
-}
-
 /// Rolls repeatedly, each time after the editor has made some more rounds. Returns the seat and the
 /// number after the last rolled record.
 fn roll_beside<'h, L: HallName, H: Wait + Drop, R: Wait + Abort>(
@@ -122,10 +104,11 @@ fn rolls_beside_work_in<
     L: HallName + Send + Sync,
     H: Wait + Drop + Send,
     R: Threads + Wait + Abort + Sync,
->(rt: &R, own: H, heap: Global, unnamed: Unnamed)
+>(rt: &R, own: H, heap: Global, unnamed: Unnamed<Global>)
     requires name { unnamed.ledger.name ≡ L.name }
     requires parts { (unnamed.ledger.parts ≡ L.parts) × (L.parts ≡ LEDGER_PARTS) }
     requires list { unnamed.list ≡ L.book }
+    requires states { unnamed.states ≡ L.states }
 {
     let hall = opened::<L, H>(rt, own, heap, unnamed, 0);
     let chief = seat(rt, &hall, "chief");

@@ -67,11 +67,12 @@ fn sections_in<L: HallName, H: Wait + Drop, R: Wait + Abort>(
     rt: &R,
     own: H,
     heap: Global,
-    unnamed: Unnamed,
+    unnamed: Unnamed<Global>,
 )
     requires name { unnamed.ledger.name ≡ L.name }
     requires parts { (unnamed.ledger.parts ≡ L.parts) × (L.parts ≡ LEDGER_PARTS) }
     requires list { unnamed.list ≡ L.book }
+    requires states { unnamed.states ≡ L.states }
 {
     let hall = opened::<L, H>(rt, own, heap, unnamed, 0);
     let mut one = seat(rt, &hall, "north");
@@ -125,7 +126,7 @@ fn add_all<'h, L: HallName, H: Wait + Drop, R: Wait + Abort>(
     (seat, all)
 }
 
-fn beside_in<L, H, R>(rt: &R, own: H, heap: Global, unnamed: Unnamed)
+fn beside_in<L, H, R>(rt: &R, own: H, heap: Global, unnamed: Unnamed<Global>)
 where
     L: HallName + Send + Sync,
     H: Wait + Drop + Send,
@@ -133,6 +134,7 @@ where
     requires name { unnamed.ledger.name ≡ L.name }
     requires parts { (unnamed.ledger.parts ≡ L.parts) × (L.parts ≡ LEDGER_PARTS) }
     requires list { unnamed.list ≡ L.book }
+    requires states { unnamed.states ≡ L.states }
 {
     let hall = opened::<L, H>(rt, own, heap, unnamed, 0);
     let (one, two) = (seat(rt, &hall, "north"), seat(rt, &hall, "south"));
@@ -177,11 +179,12 @@ fn long_in<L: HallName, H: Wait + Drop, R: Wait + Abort>(
     rt: &R,
     own: H,
     heap: Global,
-    unnamed: Unnamed,
+    unnamed: Unnamed<Global>,
 )
     requires name { unnamed.ledger.name ≡ L.name }
     requires parts { (unnamed.ledger.parts ≡ L.parts) × (L.parts ≡ LEDGER_PARTS) }
     requires list { unnamed.list ≡ L.book }
+    requires states { unnamed.states ≡ L.states }
 {
     let hall = opened::<L, H>(rt, own, heap, unnamed, 0);
     let mut one = seat(rt, &hall, "north");

@@ -288,11 +288,12 @@ fn idle_rounds_in<L: HallName, H: Wait + Drop, R: Wait + Abort>(
     rt: &R,
     own: H,
     heap: Global,
-    unnamed: Unnamed,
+    unnamed: Unnamed<Global>,
 )
     requires name { unnamed.ledger.name ≡ L.name }
     requires parts { (unnamed.ledger.parts ≡ L.parts) × (L.parts ≡ 1025) }
     requires list { unnamed.list ≡ L.book }
+    requires states { unnamed.states ≡ L.states }
 {
     let hall = opened::<L, H>(rt, own, heap, unnamed, 0);
     assert!(rt; hall.tend_round(rt) == Ok(0));

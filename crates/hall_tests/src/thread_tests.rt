@@ -54,10 +54,11 @@ fn two_threads_in<
     L: HallName + Send + Sync,
     H: Wait + Drop + Send,
     R: Threads + Wait + Abort + Sync,
->(rt: &R, own: H, heap: Global, unnamed: Unnamed)
+>(rt: &R, own: H, heap: Global, unnamed: Unnamed<Global>)
     requires name { unnamed.ledger.name ≡ L.name }
     requires parts { (unnamed.ledger.parts ≡ L.parts) × (L.parts ≡ LEDGER_PARTS) }
     requires list { unnamed.list ≡ L.book }
+    requires states { unnamed.states ≡ L.states }
 {
     let hall = opened::<L, H>(rt, own, heap, unnamed, 1);
     let chief = seat(rt, &hall, "chief");

@@ -88,7 +88,7 @@ where
     (two, three)
 }
 
-fn two_lists_in<L, H, R>(rt: &R, own: H, heap: Global, unnamed: Unnamed)
+fn two_lists_in<L, H, R>(rt: &R, own: H, heap: Global, unnamed: Unnamed<Global>)
 where
     L: HallName + Send + Sync,
     H: Wait + Drop + Send,
@@ -96,6 +96,7 @@ where
     requires name { unnamed.ledger.name ≡ L.name }
     requires parts { (unnamed.ledger.parts ≡ L.parts) × (L.parts ≡ LEDGER_PARTS) }
     requires list { unnamed.list ≡ L.book }
+    requires states { unnamed.states ≡ L.states }
 {
     let hall = opened::<L, H>(rt, own, heap, unnamed, 0);
     let mut one = seat(rt, &hall, "north");
@@ -179,7 +180,7 @@ fn last_in_the_square(rt: &impl Abort) -> [Change; 16] {
 }
 
 /// A search, a list that it holds back, and a thread that asks for the lock.
-fn race_in<L, H, R>(rt: &R, own: H, heap: Global, unnamed: Unnamed, race: u64)
+fn race_in<L, H, R>(rt: &R, own: H, heap: Global, unnamed: Unnamed<Global>, race: u64)
 where
     L: HallName + Send + Sync,
     H: Wait + Drop + Send,
@@ -187,6 +188,7 @@ where
     requires name { unnamed.ledger.name ≡ L.name }
     requires parts { (unnamed.ledger.parts ≡ L.parts) × (L.parts ≡ LEDGER_PARTS) }
     requires list { unnamed.list ≡ L.book }
+    requires states { unnamed.states ≡ L.states }
 {
     let hall = opened::<L, H>(rt, own, heap, unnamed, 0);
     let (one, two) = (seat(rt, &hall, "north"), seat(rt, &hall, "south"));
@@ -219,7 +221,7 @@ fn a_search_that_ends_as_a_list_begins_to_wait(rt: HostRuntime) {
     }
 }
 
-fn full_trail_in<L, H, R>(rt: &R, own: H, heap: Global, unnamed: Unnamed)
+fn full_trail_in<L, H, R>(rt: &R, own: H, heap: Global, unnamed: Unnamed<Global>)
 where
     L: HallName + Send + Sync,
     H: Wait + Drop + Send,
@@ -227,6 +229,7 @@ where
     requires name { unnamed.ledger.name ≡ L.name }
     requires parts { (unnamed.ledger.parts ≡ L.parts) × (L.parts ≡ LEDGER_PARTS) }
     requires list { unnamed.list ≡ L.book }
+    requires states { unnamed.states ≡ L.states }
 {
     let limits = Limits {
         records: 1,
@@ -308,7 +311,7 @@ fn everywhere(rt: &impl Abort) -> [Change; 16] {
     changes
 }
 
-fn overrun_in<L, H, R>(rt: &R, own: H, heap: Global, unnamed: Unnamed)
+fn overrun_in<L, H, R>(rt: &R, own: H, heap: Global, unnamed: Unnamed<Global>)
 where
     L: HallName + Send + Sync,
     H: Wait + Drop + Send,
@@ -316,6 +319,7 @@ where
     requires name { unnamed.ledger.name ≡ L.name }
     requires parts { (unnamed.ledger.parts ≡ L.parts) × (L.parts ≡ LEDGER_PARTS) }
     requires list { unnamed.list ≡ L.book }
+    requires states { unnamed.states ≡ L.states }
 {
     let limits = Limits {
         steps: FEW_STEPS,
@@ -393,7 +397,14 @@ fn commit_counted<'h, L: HallName, H: Wait + Drop, R: Wait + Abort>(
     seat
 }
 
-fn tries_in<L, H, R>(rt: &R, own: H, heap: Global, unnamed: Unnamed, steps: bool, expected: u64)
+fn tries_in<L, H, R>(
+    rt: &R,
+    own: H,
+    heap: Global,
+    unnamed: Unnamed<Global>,
+    steps: bool,
+    expected: u64,
+)
 where
     L: HallName + Send + Sync,
     H: Wait + Drop + Send,
@@ -401,6 +412,7 @@ where
     requires name { unnamed.ledger.name ≡ L.name }
     requires parts { (unnamed.ledger.parts ≡ L.parts) × (L.parts ≡ LEDGER_PARTS) }
     requires list { unnamed.list ≡ L.book }
+    requires states { unnamed.states ≡ L.states }
 {
     let hall = opened::<L, H>(rt, own, heap, unnamed, 0);
     let one = seat(rt, &hall, "north");
@@ -447,11 +459,12 @@ fn refused_in<L: HallName, H: Wait + Drop, R: Wait + Abort>(
     rt: &R,
     own: H,
     heap: Global,
-    unnamed: Unnamed,
+    unnamed: Unnamed<Global>,
 )
     requires name { unnamed.ledger.name ≡ L.name }
     requires parts { (unnamed.ledger.parts ≡ L.parts) × (L.parts ≡ LEDGER_PARTS) }
     requires list { unnamed.list ≡ L.book }
+    requires states { unnamed.states ≡ L.states }
 {
     let limits = Limits {
         records: 0,
@@ -476,11 +489,12 @@ fn overruns_in<L: HallName, H: Wait + Drop, R: Wait + Abort>(
     rt: &R,
     own: H,
     heap: Global,
-    unnamed: Unnamed,
+    unnamed: Unnamed<Global>,
 )
     requires name { unnamed.ledger.name ≡ L.name }
     requires parts { (unnamed.ledger.parts ≡ L.parts) × (L.parts ≡ LEDGER_PARTS) }
     requires list { unnamed.list ≡ L.book }
+    requires states { unnamed.states ≡ L.states }
 {
     let limits = Limits {
         steps: 0,

@@ -251,7 +251,7 @@ where
 pub(crate) fn opened<L: HallName, H: Wait + Drop>(
     own: H,
     heap: Global,
-    unnamed: Unnamed,
+    unnamed: Unnamed<Global>,
     subjects: Subjects,
     begins: Begins,
     workers: usize,
@@ -260,6 +260,7 @@ pub(crate) fn opened<L: HallName, H: Wait + Drop>(
     requires name { unnamed.ledger.name ≡ L.name }
     requires parts { (unnamed.ledger.parts ≡ L.parts) × (L.parts ≡ LEDGER_PARTS) }
     requires list { unnamed.list ≡ L.book }
+    requires states { unnamed.states ≡ L.states }
     requires opening { L.opening ≡ opening_of subjects begins }
 {
     let limits = features.limits();
@@ -289,7 +290,7 @@ fn serve_hall<L: HallName + Send + Sync, H, R, T, S>(
     rt: &R,
     own: H,
     heap: Global,
-    unnamed: Unnamed,
+    unnamed: Unnamed<Global>,
     serving: Serving,
     lasting: Option<Lasting<'_>>,
     incoming: S,
@@ -302,6 +303,7 @@ where
     requires name { unnamed.ledger.name ≡ L.name }
     requires parts { (unnamed.ledger.parts ≡ L.parts) × (L.parts ≡ LEDGER_PARTS) }
     requires list { unnamed.list ≡ L.book }
+    requires states { unnamed.states ≡ L.states }
     requires opening { L.opening ≡ opening_of serving.subjects serving.begins }
     requires can { S.can_next incoming }
     requires ends { IsFinite (S.remaining incoming) }
@@ -337,7 +339,7 @@ where
     requires ends { IsFinite (S.remaining incoming) }
     ensures { IfOk result (IsServed (opening_of serving.subjects serving.begins)) }
 {
-    let unnamed = Unnamed::new();
+    let unnamed: Unnamed<Global> = Unnamed::new();
     serve_hall::<Brand, H, R, T, S>(rt, own, heap, unnamed, serving, lasting, incoming)
 }
 

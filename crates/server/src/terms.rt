@@ -179,7 +179,7 @@ struct Term {
 fn hold<L: HallName + Send + Sync, H, R>(
     rt: &R,
     own: H,
-    unnamed: Unnamed,
+    unnamed: Unnamed<Global>,
     relay: Relay<'_, '_>,
     subjects: Subjects,
     begins: Begins,
@@ -191,6 +191,7 @@ where
     requires name { unnamed.ledger.name ≡ L.name }
     requires parts { (unnamed.ledger.parts ≡ L.parts) × (L.parts ≡ LEDGER_PARTS) }
     requires list { unnamed.list ≡ L.book }
+    requires states { unnamed.states ≡ L.states }
     requires opening { L.opening ≡ opening_of subjects begins }
     ensures term { IfOk result (λ term. IsTerm L.opening term.left.closed term.left.base) }
     ensures sorted { IfOk result (λ term. IsSortedById term.left.base.features) }
@@ -323,7 +324,7 @@ where
         lasting: behind_records(relay.lasting, account.records),
         ..relay
     };
-    let unnamed = Unnamed::new();
+    let unnamed: Unnamed<Global> = Unnamed::new();
     let subjects = same_subjects(subjects);
     let term = hold::<Brand, H, R>(rt, own, unnamed, relay, subjects, begins, waiting)?;
     let new = behind(term, account, before)?;

@@ -9,3 +9,6 @@ ghosts-serve_hall-L-ListName g a = record { book = a.unnamed.list }
 
 abbrev pub ghosts-serve_hall-L-HallName : goal.ghosts-serve_hall-L-HallName
 ghosts-serve_hall-L-HallName g a = record { opening = opening_of a.serving.subjects a.serving.begins }
+
+abbrev pub ghosts-serve_hall-L-StatesName : goal.ghosts-serve_hall-L-StatesName
+ghosts-serve_hall-L-StatesName g a = record { states = a.unnamed.states }

@@ -9,3 +9,6 @@ ghosts-hold-L-ListName g a = record { book = a.unnamed.list }
 
 abbrev pub ghosts-hold-L-HallName : goal.ghosts-hold-L-HallName
 ghosts-hold-L-HallName g a = record { opening = opening_of a.subjects a.begins }
+
+abbrev pub ghosts-hold-L-StatesName : goal.ghosts-hold-L-StatesName
+ghosts-hold-L-StatesName g a = record { states = a.unnamed.states }

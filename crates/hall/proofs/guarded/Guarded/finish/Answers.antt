@@ -1,5 +1,6 @@
-use Rattle.std.proofs.Common.{◌+◌, ◌∷◌, [], ℕ, ap, sym, ◌∙◌, length-append}
+use Rattle.std.proofs.Common.{ap}
 use Rattle.hall.proofs.Lasts.{pushed_last}
+use Rattle.hall.proofs.Level.{one_more}
 use Rattle.hall.proofs.Seating.{one_subject}
 use Rattle.hall.proofs.guarded.Guarded.finish.Goals as goal
 
@@ -9,11 +10,10 @@ returns-clause-subject g c =
 
 pub returns-clause-receipt : goal.returns-clause-receipt
 returns-clause-receipt g c =
-    let last = rw c.in_ok-answer.ensures.ok.told at c.receipt.ensures.last in
+    let last = rw c.in_ok-answer.ensures.ok.told at c.note-receipt.ensures.last in
     pushed_last c.args.self.now.chronicle.records _ _ last
 
-pub invariant_of-self-2-clause-counted : goal.invariant_of-self-2-clause-counted
-invariant_of-self-2-clause-counted g c =
+pub note-receipt-requires-clause-told : goal.note-receipt-requires-clause-told
+note-receipt-requires-clause-told g c =
     let old = c.args.self.now in
-    let grown = ap (λ (n : ℕ). n + 1) old.counted ∙ sym (length-append old.chronicle.records (_ ∷ [])) in
-    rw c.in_ok-answer.ensures.ok.told (c.receipt.ensures.total ∙ grown)
+    one_more c.args.lobby.now.tray old.seen old.chronicle _ _ c.requires.level old.present (ap (λ d. d.records) c.in_ok-answer.ensures.ok.told)

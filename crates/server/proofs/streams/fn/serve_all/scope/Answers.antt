@@ -17,7 +17,7 @@ spawn-requires-send-F g c κs within =
     let H = param 1 g.row.H in
     let sends = c.requires.hall in
     param_send _ _ (arg_send _ no _ (over_seven_send _ _ _ _ _ _ _ _ (shr_send _ _ _ c.requires.shares) std.send
-    (shr_send _ _ _ (hall_sync L H g.L.Ledger g.L.ListName g.L.HallName sends.0 sends.1)) (shr_send _ _ _ (mutex.the_sync _ (std.Vec-send _ (seat_send L H g.L.Ledger g.L.ListName g.L.HallName sends.0 sends.1 _))))
+    (shr_send _ _ _ (hall_sync L H g.L.Ledger g.L.StatesName g.L.ListName g.L.HallName sends.0 sends.1)) (shr_send _ _ _ (mutex.the_sync _ (std.Vec-send _ (seat_send L H g.L.Ledger g.L.StatesName g.L.ListName g.L.HallName sends.0 sends.1 _))))
     (receiver.the_send _ heap ghosts c.requires.crosses std.send std.sync std.frees)
     (view_send L g.L.ListName sends.0)
     (lasting_send _)))

@@ -19,7 +19,7 @@ use Rattle.server.proofs.streams.fn.serve_tended.scope.Goals as goal
 pub spawn-requires-send-F : goal.spawn-requires-send-F
 spawn-requires-send-F g c κs within =
     let sends = c.requires.hall in
-    let hall = shr_send _ _ _ (hall_sync (param 0 g.row.L) (param 1 g.row.H) g.L.Ledger g.L.ListName g.L.HallName sends.0 sends.1) in
+    let hall = shr_send _ _ _ (hall_sync (param 0 g.row.L) (param 1 g.row.H) g.L.Ledger g.L.StatesName g.L.ListName g.L.HallName sends.0 sends.1) in
     param_send _ _ (arg_send _ no _ (over_five_send _ _ _ _ _ _ (shr_send _ _ _ c.requires.shares) hall
     (receiver.the_send unit-field.row heap ghosts (search sendable depth 6) std.send std.sync std.frees)
     (lasting_send _) (option.the_send _ (shr_send _ _ _ turn.the_sync))))
@@ -30,7 +30,7 @@ spawn-requires-in-loop-view-send-F g c κs within =
     let H = param 1 g.row.H in
     let sends = c.requires.hall in
     param_send _ _ (arg_send _ no _ (over_eight_send _ _ _ _ _ _ _ _ _ (shr_send _ _ _ c.requires.shares) std.send
-    (shr_send _ _ _ (hall_sync L H g.L.Ledger g.L.ListName g.L.HallName sends.0 sends.1)) (shr_send _ _ _ (mutex.the_sync _ (std.Vec-send _ (seat_send L H g.L.Ledger g.L.ListName g.L.HallName sends.0 sends.1 _))))
+    (shr_send _ _ _ (hall_sync L H g.L.Ledger g.L.StatesName g.L.ListName g.L.HallName sends.0 sends.1)) (shr_send _ _ _ (mutex.the_sync _ (std.Vec-send _ (seat_send L H g.L.Ledger g.L.StatesName g.L.ListName g.L.HallName sends.0 sends.1 _))))
     (shr_send _ _ _ (reception_sync _))
     (shr_send _ _ _ turn.the_sync)
     (view_send L g.L.ListName sends.0)

@@ -1,8 +1,9 @@
 use Rattle.std.proofs.Common.{◌≡◌, Ok, Some, ap, subst, sym, ◌∙◌}
 use Rattle.features.specs.Subjects.{subject_named}
 use Rattle.chronicle.specs.Chronicles.{ChronicleData, Opening, subject_given}
+use Rattle.hall.proofs.Level.{as_many}
 use Rattle.hall.proofs.Seating.{last_found, last_subject}
-use Rattle.hall.proofs.guarded.Guarded.seat.Goals as goal
+use Rattle.hall.proofs.guarded.Guarded.seat_in.Goals as goal
 
 pub returns-clause-named : goal.returns-clause-named
 returns-clause-named g c =
@@ -20,3 +21,8 @@ unreachable-requires g c =
     let number = c.in_ok-number.number in
     c.in_default.not-Ok sat.subject (c.subject_at.ensures ∙ ap (λ (d : ChronicleData). subject_given number d.seats) sat.given
     ∙ last_found c.args.self.now.chronicle.seats sat.subject number sat.next)
+
+pub go_on-requires-clause-told : goal.go_on-requires-clause-told
+go_on-requires-clause-told g c =
+    let old = c.args.self.now in
+    as_many c.args.lobby.now.tray old.seen old.chronicle _ c.requires.level old.present (ap (λ (d : ChronicleData). d.records) c.in_ok-number.ensures.ok.given)
