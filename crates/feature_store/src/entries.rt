@@ -15,6 +15,12 @@ use std::marker::Model;
 /// The most entries of a block.
 const BLOCK_LIMIT: usize = 512;
 
+/// How far from where it would be, if ids rose evenly, an entry is looked for first.
+const ENTRIES_NEAR: usize = 16;
+
+/// The same for the block of an entry.
+const BLOCKS_NEAR: usize = 2;
+
 /// How many entries each half of a split block has, and the most of two blocks that are joined.
 const HALF: usize = 256;
 
@@ -34,14 +40,68 @@ struct Position {
     index: usize,
 }
 
+/// Between which two an index is looked for.
+#[derive(Clone, Copy)]
+struct Bounds {
+    low: usize,
+    high: usize,
+}
+
+/// Where one of `count` numbers would be that rise evenly from `first` to `last`.
+fn even_place(first: u64, last: u64, count: usize, number: u64) -> usize
+    ensures { result ≤ count }
+{
+    if number <= first || last <= first {
+        return 0;
+    }
+    let above = number - first;
+    let span = last - first;
+    let place = match above.checked_mul(count as u64) {
+        Some(product) => product / span,
+        None => above / (span / count.max(1) as u64).max(1),
+    };
+    (place as usize).min(count)
+}
+
+/// Bounds of the index that `index_in` finds: near where it would be if the ids rose evenly, or else
+/// those of all entries.
+fn bounds_in(entries: &[Entry], id: u64) -> Bounds
+    ensures ordered { result.low ≤ result.high }
+    ensures within { result.high ≤ length entries.now }
+    ensures before { 0 < result.low → (entry_at entries.now (result.low - 1)).id < id }
+    ensures behind { result.high < length entries.now
+        → id ≤ (entry_at entries.now result.high).id }
+{
+    let count = entries.len();
+    if count <= ENTRIES_NEAR {
+        return Bounds {
+            low: 0,
+            high: count,
+        };
+    }
+    let place = even_place(entries[0].id, entries[count - 1].id, count, id);
+    let mut bounds = Bounds {
+        low: 0,
+        high: count,
+    };
+    if place > ENTRIES_NEAR && entries[place - ENTRIES_NEAR - 1].id < id {
+        bounds.low = place - ENTRIES_NEAR;
+    }
+    if place + ENTRIES_NEAR < count && id <= entries[place + ENTRIES_NEAR].id {
+        bounds.high = place + ENTRIES_NEAR;
+    }
+    bounds
+}
+
 /// The index of the first entry whose id is not less.
 fn index_in(entries: &[Entry], id: u64) -> usize
     ensures within { result ≤ length entries.now }
     ensures before { 0 < result → (entry_at entries.now (result - 1)).id < id }
     ensures behind { result < length entries.now → id ≤ (entry_at entries.now result).id }
 {
-    let mut low = 0;
-    let mut high = entries.len();
+    let Bounds { low, high } = bounds_in(entries, id);
+    let mut low = low;
+    let mut high = high;
     while low < high {
         let middle = low + (high - low) / 2;
         if entries[middle].id < id {
@@ -53,13 +113,48 @@ fn index_in(entries: &[Entry], id: u64) -> usize
     low
 }
 
+/// The last id of a block.
+fn end_of(block: &Block) -> u64
+    requires { 0 < length block.now.items }
+    ensures { result ≡ (last_of block.now.items).id }
+{
+    let entries = block.as_slice();
+    entries[entries.len() - 1].id
+}
+
 /// Whether the last id of a block is less.
 fn ends_below(block: &Block, id: u64) -> bool
     requires { 0 < length block.now.items }
     ensures { result ≡ nat_lt (last_of block.now.items).id id }
 {
-    let entries = block.as_slice();
-    entries[entries.len() - 1].id < id
+    end_of(block) < id
+}
+
+/// Bounds of the block that `block_for` finds: near where it would be if the ids rose evenly, or else
+/// those of all blocks.
+fn bounds_for(blocks: &[Block], id: u64) -> Bounds
+    requires some { 0 < length blocks.now }
+    requires filled { AreFilled blocks.now }
+    ensures ordered { result.low ≤ result.high }
+    ensures within { result.high < length blocks.now }
+    ensures before { 0 < result.low
+        → (last_of (block_at blocks.now (result.low - 1))).id < id }
+    ensures behind { result.high + 1 < length blocks.now
+        → id ≤ (last_of (block_at blocks.now result.high)).id }
+{
+    let last = blocks.len() - 1;
+    let mut bounds = Bounds { low: 0, high: last };
+    if last <= BLOCKS_NEAR {
+        return bounds;
+    }
+    let place = even_place(end_of(&blocks[0]), end_of(&blocks[last - 1]), last - 1, id);
+    if place > BLOCKS_NEAR && ends_below(&blocks[place - BLOCKS_NEAR - 1], id) {
+        bounds.low = place - BLOCKS_NEAR;
+    }
+    if place + BLOCKS_NEAR < last && !ends_below(&blocks[place + BLOCKS_NEAR], id) {
+        bounds.high = place + BLOCKS_NEAR;
+    }
+    bounds
 }
 
 /// The index of the first block that does not end below an id, or of the last one.
@@ -71,8 +166,9 @@ fn block_for(blocks: &[Block], id: u64) -> usize
     ensures behind { result + 1 < length blocks.now
         → id ≤ (last_of (block_at blocks.now result)).id }
 {
-    let mut low = 0;
-    let mut high = blocks.len() - 1;
+    let Bounds { low, high } = bounds_for(blocks, id);
+    let mut low = low;
+    let mut high = high;
     while low < high {
         let middle = low + (high - low) / 2;
         if ends_below(&blocks[middle], id) {
@@ -82,6 +178,66 @@ fn block_for(blocks: &[Block], id: u64) -> usize
         }
     }
     low
+}
+
+/// Whether `block_for` finds the block at this index.
+fn is_block_for(blocks: &[Block], at: usize, id: u64) -> bool
+    requires { AreFilled blocks.now }
+    ensures within { IsTrue result → at < length blocks.now }
+    ensures before { IsTrue result → 0 < at → (last_of (block_at blocks.now (at - 1))).id < id }
+    ensures behind { IsTrue result → at + 1 < length blocks.now
+        → id ≤ (last_of (block_at blocks.now at)).id }
+{
+    if at >= blocks.len() {
+        return false;
+    }
+    if at > 0 && !ends_below(&blocks[at - 1], id) {
+        return false;
+    }
+    at + 1 == blocks.len() || !ends_below(&blocks[at], id)
+}
+
+/// The block that `block_for` finds, which may be the one at `near`.
+fn block_near(blocks: &[Block], near: usize, id: u64) -> usize
+    requires some { 0 < length blocks.now }
+    requires filled { AreFilled blocks.now }
+    ensures within { result < length blocks.now }
+    ensures before { 0 < result → (last_of (block_at blocks.now (result - 1))).id < id }
+    ensures behind { result + 1 < length blocks.now
+        → id ≤ (last_of (block_at blocks.now result)).id }
+{
+    if is_block_for(blocks, near, id) {
+        return near;
+    }
+    block_for(blocks, id)
+}
+
+/// The position of an id, or where it would be inserted, in the block that `block_for` finds.
+fn find_in(blocks: &[Block], block: usize, id: u64) -> Result<Position, Position>
+    requires filled { AreFilled blocks.now }
+    requires rising { AreRising (ids_in (entries_of blocks.now)) }
+    requires within { block < length blocks.now }
+    requires before { 0 < block → (last_of (block_at blocks.now (block - 1))).id < id }
+    requires behind { block + 1 < length blocks.now
+        → id ≤ (last_of (block_at blocks.now block)).id }
+    ensures found { IfOk result
+        (λ position. IsAt id (ids_in (entries_of blocks.now)) (flat_index blocks.now position)) }
+    ensures present { IfOk result (λ position. IsPresent position blocks.now) }
+    ensures missing { IfErr result
+        (λ position. IsGapFor id (ids_in (entries_of blocks.now))
+        (flat_index blocks.now position)) }
+    ensures within { IfErr result (λ position. IsWithin position blocks.now) }
+{
+    let entries = blocks[block].as_slice();
+    let index = index_in(entries, id);
+    let position = Position { block, index };
+    if index == entries.len() {
+        return Err(position);
+    }
+    if entries[index].id == id {
+        return Ok(position);
+    }
+    Err(position)
 }
 
 /// The position of an id, or where it would be inserted.
@@ -97,17 +253,7 @@ fn find(blocks: &[Block], id: u64) -> Result<Position, Position>
         (flat_index blocks.now position)) }
     ensures within { IfErr result (λ position. IsWithin position blocks.now) }
 {
-    let block = block_for(blocks, id);
-    let entries = blocks[block].as_slice();
-    let index = index_in(entries, id);
-    let position = Position { block, index };
-    if index == entries.len() {
-        return Err(position);
-    }
-    if entries[index].id == id {
-        return Ok(position);
-    }
-    Err(position)
+    find_in(blocks, block_for(blocks, id), id)
 }
 
 /// Inserts an entry into a block that is not full.
@@ -212,6 +358,25 @@ fn place_of(blocks: &[Block], id: u64) -> Option<u32>
     match position_of(blocks, id) {
         Some(position) => Some(place_in(blocks, position)),
         None => None,
+    }
+}
+
+/// The place of an id. It is looked for first in the block at `near`, which is then the one in which
+/// it is, or would be.
+fn place_near(blocks: &[Block], near: &mut usize, id: u64) -> Option<u32>
+    requires filled { AreFilled blocks.now }
+    requires rising { AreRising (ids_in (entries_of blocks.now)) }
+    ensures found { IfSome result (λ place. HasPlace id place (entries_of blocks.now)) }
+    ensures missing { IfNone result (HasGap id (entries_of blocks.now)) }
+{
+    if blocks.is_empty() {
+        return None;
+    }
+    let block = block_near(blocks, *near, id);
+    *near = block;
+    match find_in(blocks, block, id) {
+        Ok(position) => Some(place_in(blocks, position)),
+        Err(_) => None,
     }
 }
 
@@ -487,6 +652,15 @@ impl<A: Allocator> Entries<A> {
         ensures missing { IfNone result (HasGap id self.now.items) }
     {
         place_of(&self.blocks, id)
+    }
+
+    /// The place of an id, looked for near where one was found before.
+    pub(crate) fn place_near(&self, near: &mut usize, id: u64) -> Option<u32>
+        requires { AreRising (ids_in self.now.items) }
+        ensures found { IfSome result (λ place. HasPlace id place self.now.items) }
+        ensures missing { IfNone result (HasGap id self.now.items) }
+    {
+        place_near(&self.blocks, near, id)
     }
 
     /// The place at an index. It walks over the blocks.

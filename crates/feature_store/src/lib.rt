@@ -2,10 +2,12 @@
 #![tactic(auto)]
 
 mod entries;
+mod lookups;
 mod meters;
 mod stores;
 mod tables;
 
+pub use lookups::Lookup;
 pub use meters::Meter;
 pub use stores::{Store, StoreFault};
 pub use tables::{FEATURE_LIMIT, LIST_LIMIT};

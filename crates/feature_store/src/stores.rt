@@ -9,6 +9,7 @@ ghost use Rattle.feature_store.specs.Tables.{HasRoom, IsSound, rows_of};
 ghost use Rattle.feature_store.specs.Ticks.{ticked_by};
 
 use crate::entries::Entries;
+use crate::lookups::Lookup;
 use crate::meters::Meter;
 use crate::tables::{self, FEATURE_LIMIT, LIST_LIMIT, Table};
 use features::{Change, Feature, Name};
@@ -67,7 +68,7 @@ impl fmt::Display for StoreFault {
 /// The features of the map. A contract sees their list, sorted by id.
 #[derive(Debug, Drop)]
 pub struct Store<A: Allocator> {
-    table: Table<A>,
+    pub(crate) table: Table<A>,
 }
 
 impl<A: Allocator> Model for Store<A> {
@@ -120,6 +121,13 @@ impl<A: Allocator> Store<A> {
     {
         meter.tick(1);
         tables::find(&self.table, id)
+    }
+
+    /// What looks ids up one after another, and best in rising order.
+    pub fn lookup(&self) -> Lookup<'_, A>
+        ensures { result ≡ self.now }
+    {
+        Lookup::new(self)
     }
 
     /// The feature at this index of the list sorted by id. Costs no tick. It walks over the list, a

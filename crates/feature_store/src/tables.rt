@@ -36,6 +36,21 @@ pub(crate) fn find<A: Allocator>(table: &Table<A>, id: u64) -> Option<&Feature>
     }
 }
 
+/// The feature with this id, looked for near where one was found before.
+pub(crate) fn find_near<'t, A: Allocator>(
+    table: &'t Table<A>,
+    near: &mut usize,
+    id: u64,
+) -> Option<&'t Feature>
+    requires { IsSound table.now }
+    ensures { option_copied result ≡ feature_with id (rows_of table.now) }
+{
+    match table.entries.place_near(near, id) {
+        Some(place) => Some(&table.features[place as usize]),
+        None => None,
+    }
+}
+
 /// Makes room for this many more features.
 pub(crate) fn make_room<A: Allocator>(
     table: &mut Table<A>,

@@ -10,17 +10,18 @@ ghost use Rattle.tree_theory.specs.declared.TheConstants.{NODE_SIZE};
 use crate::masks::meeting_mask;
 use crate::measure::{area, margin};
 use crate::split::right_part;
-use plane::{Frame, Shape, covers, frame_of, frames_meet, hull, meets};
+use plane::{Frame, Shape, covers, frame_of, frames_meet, hull};
 use tree_theory::KeyClass;
+use windows::Window;
 
-/// The class whose keys are frames, and whose items and queries are shapes: a search finds the
-/// shapes that meet its own.
+/// The class whose keys are frames, whose items are shapes, and whose queries are windows: a search
+/// finds the shapes that meet its window.
 pub struct Frames;
 
 impl KeyClass for Frames {
     type Key = Frame;
 
-    type Query = Shape;
+    type Query = Window;
 
     type Item = Shape;
 
@@ -59,21 +60,20 @@ impl KeyClass for Frames {
         Frame::whole()
     }
 
-    fn consistent(key: Frame, query: Shape) -> bool {
-        frames_meet(key, frame_of(&query))
+    fn consistent(key: Frame, query: Window) -> bool {
+        frames_meet(key, query.frame())
     }
 
-    /// The query's frame is computed once.
-    fn matching_mask(keys: &[Frame], query: &Shape) -> u16 {
-        meeting_mask(keys, frame_of(query))
+    fn matching_mask(keys: &[Frame], query: &Window) -> u16 {
+        meeting_mask(keys, query.frame())
     }
 
-    fn matches(item: Shape, query: Shape) -> bool {
-        meets(&item, &query)
+    fn matches(item: Shape, query: Window) -> bool {
+        query.meets(&item)
     }
 
-    fn matches_in_place(item: &Shape, query: &Shape) -> bool {
-        meets(item, query)
+    fn matches_in_place(item: &Shape, query: &Window) -> bool {
+        query.meets(item)
     }
 
     /// The growth of the area.

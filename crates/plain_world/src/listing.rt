@@ -14,8 +14,9 @@ use decision::{Reading, Ruling};
 use feature_store::{Meter, Store};
 use features::{Action, Feature};
 use memory::{GrowVec, NoMemory};
-use plane::{Shape, meets};
+use plane::Shape;
 use std::alloc::Allocator;
+use windows::Window;
 
 /// The found ids, by rising id and each once. Fails only where an allocation is refused.
 pub(crate) fn ids_found<A: Allocator>(
@@ -76,10 +77,12 @@ pub(crate) fn listed<A: Allocator>(
 {
     fact_sorted_by_id(store);
     fact_ticks_within(meter);
+    let prepared = Window::new(*window);
+    let mut lookup = store.lookup();
     let mut rows = Vec::new(alloc);
     for id in ids {
-        if let Some(feature) = store.get(*id, meter) {
-            if shows(reading, window, feature)? {
+        if let Some(feature) = lookup.get(*id, meter) {
+            if shows(reading, &prepared, feature)? {
                 rows.try_push(*feature)?;
             }
         }
@@ -104,13 +107,13 @@ fn fact_ticks_within(meter: &Meter)
 
 /// Whether a feature is shown: its shape meets the window, and the subject may read it. Fails only
 /// where an allocation is refused.
-fn shows(reading: &mut Reading<'_>, window: &Shape, feature: &Feature) -> Result<bool, NoMemory>
+fn shows(reading: &mut Reading<'_>, window: &Window, feature: &Feature) -> Result<bool, NoMemory>
     requires { reading.old.action ≡ Action.Read }
     ensures shown { IfOk result (λ shown. IsTrue shown
         ↔ IsShown reading.old.decider.document reading.old.subject window.now feature.now) }
     ensures same { reading.new ≡ reading.old }
 {
-    if !meets(&feature.shape, window) {
+    if !window.meets(&feature.shape) {
         return Ok(false);
     }
     permits(reading, feature)

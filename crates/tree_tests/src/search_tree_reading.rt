@@ -7,6 +7,7 @@ use refusing::Refusing;
 use search_tree::{Tree, TreeFault, Visit};
 use std::alloc::Allocator;
 use std::process::Abort;
+use windows::Window;
 
 /// Places the pairs `first` to `last`. Pair `n` is the point at `n` on the x axis.
 fn fill<A: Allocator + Copy>(rt: &impl Abort, tree: &mut Tree<Frames, A>, first: u64, last: u64) {
@@ -28,7 +29,7 @@ fn filled<A: Allocator + Copy>(rt: &impl Abort, alloc: A, last: u64) -> Tree<Fra
 
 /// Opens a search for everything, visits once, and leaves it open.
 fn begin<A: Allocator + Copy>(rt: &impl Abort, tree: &mut Tree<Frames, A>) -> u64 {
-    let opened = tree.open_search(window(rt, 500, -1, 1));
+    let opened = tree.open_search(Window::new(window(rt, 500, -1, 1)));
     assert!(rt; opened.is_ok());
     let search = opened.unwrap();
     assert!(rt; tree.visit(search) == Ok(Visit::More));
@@ -44,7 +45,7 @@ fn are_alike(ids: &[u64], found: &[(u64, Shape)]) -> bool {
 
 /// Searches from x 0 to `right`, at once and by steps, with the same answer: how many it has.
 fn count<A: Allocator + Copy>(rt: &impl Abort, tree: &mut Tree<Frames, A>, right: i32) -> usize {
-    let query = window(rt, right, -1, 1);
+    let query = Window::new(window(rt, right, -1, 1));
     let asked = tree.ids_matching(&query);
     assert!(rt; asked.is_ok());
     let ids = asked.unwrap();
@@ -98,7 +99,7 @@ fn more_nodes_than_steps(rt: HostRuntime) {
     let made = Tree::<Frames, _>::starting_at(rt.alloc(), 0, 0, 1, 1);
     assert!(&rt; made.is_ok());
     let mut tree = made.unwrap();
-    let query = window(&rt, 500, -1, 1);
+    let query = Window::new(window(&rt, 500, -1, 1));
     fill(&rt, &mut tree, 1, 16);
     assert!(&rt; tree.ids_matching(&query).is_ok_and(|ids| ids.len() == 16));
     let mut walk = tree.start_walk(17, pin(&rt, 17, 0));
@@ -115,7 +116,7 @@ fn more_nodes_than_steps(rt: HostRuntime) {
 fn each_allocation_refused(rt: HostRuntime) {
     let memory = Refusing::new(rt.alloc(), 0);
     let tree = filled(&rt, &memory, 100);
-    let query = window(&rt, 500, -1, 1);
+    let query = Window::new(window(&rt, 500, -1, 1));
     for at in 1..=100 {
         memory.refuse(at);
         let asked = tree.ids_matching(&query);

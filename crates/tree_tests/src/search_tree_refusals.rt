@@ -8,6 +8,7 @@ use search_tree::{Step, Tending, Tree, TreeFault, Visit, Walk};
 use std::alloc::Allocator;
 use std::process::Abort;
 use std::test::Fail;
+use windows::Window;
 
 /// With so many pairs inner nodes have split.
 const MANY: u64 = 250;
@@ -91,7 +92,7 @@ fn is_whole(found: &[(u64, Shape)], last: u64) -> bool {
 
 /// Whether a search for everything finds exactly the pairs 1 to `last`, each once.
 fn finds<A: Allocator + Copy>(rt: &impl Abort, tree: &mut Tree<Frames, A>, last: u64) -> bool {
-    let opened = tree.open_search(band(rt, -1, 100));
+    let opened = tree.open_search(Window::new(band(rt, -1, 100)));
     assert!(rt; opened.is_ok());
     let search = opened.unwrap();
     see_all(rt, tree, search);
@@ -122,7 +123,7 @@ fn look<A: Allocator + Copy>(
     count: u32,
 ) {
     for _ in 0..count {
-        let opened = tree.open_search(window);
+        let opened = tree.open_search(Window::new(window));
         assert!(rt; opened.is_ok());
         see_all(rt, tree, opened.unwrap());
     }
@@ -174,7 +175,7 @@ fn each_allocation_of_new_refused(rt: HostRuntime) -> Result<(), Fail> {
 fn open_refused<B: Allocator>(rt: &impl Abort, memory: &Refusing<B>, at: u64) -> bool {
     let mut tree = filled(rt, memory, 40);
     memory.refuse(at);
-    let answer = tree.open_search(band(rt, -1, 1));
+    let answer = tree.open_search(Window::new(band(rt, -1, 1)));
     if !memory.has_refused() {
         assert!(rt; answer.is_ok() && at > 1, "nothing was refused");
         return false;
@@ -185,7 +186,7 @@ fn open_refused<B: Allocator>(rt: &impl Abort, memory: &Refusing<B>, at: u64) ->
     };
     assert_eq!(rt; fault.code(), "S8");
     assert!(rt; finds(rt, &mut tree, 40));
-    assert!(rt; tree.open_search(band(rt, -1, 1)).is_ok());
+    assert!(rt; tree.open_search(Window::new(band(rt, -1, 1))).is_ok());
     true
 }
 
@@ -233,7 +234,7 @@ fn visit<B: Allocator>(
 fn visit_refused<B: Allocator>(rt: &impl Abort, memory: &Refusing<B>, at: u64) -> bool {
     let mut tree = filled(rt, memory, 40);
     look(rt, &mut tree, band(rt, -1, 1), 8);
-    let opened = tree.open_search(band(rt, -1, 1));
+    let opened = tree.open_search(Window::new(band(rt, -1, 1)));
     assert!(rt; opened.is_ok());
     let search = opened.unwrap();
     memory.refuse(at);
@@ -331,8 +332,8 @@ struct Trial {
 
 /// Opens the two searches.
 fn begin<A: Allocator + Copy>(rt: &impl Abort, tree: &mut Tree<Frames, A>, at: u64) -> Trial {
-    let near = tree.open_search(window(rt, 8, -1, 1));
-    let far = tree.open_search(band(rt, -1, 1));
+    let near = tree.open_search(Window::new(window(rt, 8, -1, 1)));
+    let far = tree.open_search(Window::new(band(rt, -1, 1)));
     assert!(rt; near.is_ok() && far.is_ok());
     let (near, far) = (near.unwrap(), far.unwrap());
     see_all(rt, tree, near);
@@ -505,7 +506,7 @@ fn calls_that_take_no_memory(rt: HostRuntime) -> Result<(), Fail> {
     let memory = Refusing::new(rt.alloc(), 0);
     let mut tree = filled(&rt, &memory, 40);
     let last = place_until_split(&rt, &mut tree);
-    let opened = tree.open_search(band(&rt, -1, 1));
+    let opened = tree.open_search(Window::new(band(&rt, -1, 1)));
     assert!(rt; opened.is_ok());
     let search = opened.unwrap();
     see_all(&rt, &mut tree, search);

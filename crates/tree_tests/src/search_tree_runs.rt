@@ -6,6 +6,7 @@ use search_tree::{Keeper, Step, Tending, Tree, TreeFault, Visit, Walk};
 use std::alloc::Global;
 use std::process::Abort;
 use std::test::Fail;
+use windows::Window;
 
 /// How many random steps are made.
 const STEPS: u32 = 100_000;
@@ -238,7 +239,7 @@ fn check_ready(rt: &impl Abort, plain: &mut Plain, tree: &Tree<Frames, Global>, 
 
 fn try_open(rt: &impl Abort, dice: &mut Dice, plain: &mut Plain, tree: &mut Tree<Frames, Global>) {
     let window = dice.square(WINDOW);
-    let answer = tree.open_search(shape(rt, &window));
+    let answer = tree.open_search(Window::new(shape(rt, &window)));
     if plain.looks.len() >= SEARCHES {
         assert!(rt; answer == Err(TreeFault::TooMany));
         return;
@@ -372,7 +373,7 @@ fn everything(rt: &impl Abort, plain: &Plain, tree: &mut Tree<Frames, Global>) -
         y: -1,
         side: 100,
     };
-    let opened = tree.open_search(shape(rt, &window));
+    let opened = tree.open_search(Window::new(shape(rt, &window)));
     assert!(rt; opened.is_ok());
     let number = opened.unwrap();
     see_all(rt, tree, number);

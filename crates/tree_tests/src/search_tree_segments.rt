@@ -7,6 +7,7 @@ use search_tree::Tree;
 use std::alloc::Allocator;
 use std::process::Abort;
 use std::test::Fail;
+use windows::Window;
 
 /// How many pairs each tree has.
 const PAIRS: u64 = 40;
@@ -48,7 +49,7 @@ fn finds_the_even<A: Allocator + Copy>(
     tree: &mut Tree<Frames, A>,
     query: Shape,
 ) -> bool {
-    let opened = tree.open_search(query);
+    let opened = tree.open_search(Window::new(query));
     assert!(rt; opened.is_ok());
     let search = opened.unwrap();
     see_all(rt, tree, search);

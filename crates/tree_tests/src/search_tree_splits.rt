@@ -6,6 +6,7 @@ use search_tree::Tree;
 use std::alloc::{Allocator, Global};
 use std::process::Abort;
 use std::test::Fail;
+use windows::Window;
 
 /// The least x and the least y of the square.
 const LOW: i32 = -10_000_000;
@@ -63,7 +64,7 @@ fn search<A: Allocator + Copy>(
         low,
     ]);
     assert!(rt; window.is_ok());
-    let opened = tree.open_search(window.unwrap());
+    let opened = tree.open_search(Window::new(window.unwrap()));
     assert!(rt; opened.is_ok());
     let search = opened.unwrap();
     let visited = see_all(rt, tree, search);

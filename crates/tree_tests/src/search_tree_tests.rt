@@ -10,6 +10,7 @@ use std::alloc::Allocator;
 use std::process::Abort;
 use std::test::Fail;
 use tree_theory::{NODE_SIZE, TOP_LEVEL};
+use windows::Window;
 
 /// Keeps only the pair of one number.
 #[derive(Clone, Copy)]
@@ -123,7 +124,7 @@ fn forty_used_once<A: Allocator + Copy>(rt: &impl Abort, alloc: A, apart: i32) -
 
 /// Opens a search for the band and visits once, after which it has more to see.
 fn begun<A: Allocator + Copy>(rt: &impl Abort, tree: &mut Tree<Frames, A>) -> u64 {
-    let opened = tree.open_search(band(rt));
+    let opened = tree.open_search(Window::new(band(rt)));
     assert!(rt; opened.is_ok());
     let search = opened.unwrap();
     assert!(rt; tree.visit(search) == Ok(Visit::More));
@@ -177,7 +178,7 @@ fn many_placed_under_search(rt: HostRuntime) -> Result<(), Fail> {
 #[test]
 fn held_by_ready_search(rt: HostRuntime) -> Result<(), Fail> {
     let mut tree = forty(&rt, rt.alloc(), 1_000);
-    let opened = tree.open_search(pin(&rt, 0, 0));
+    let opened = tree.open_search(Window::new(pin(&rt, 0, 0)));
     assert!(rt; opened.is_ok());
     let search = opened.unwrap();
     assert!(rt; tree.visit(search) == Ok(Visit::Ready));

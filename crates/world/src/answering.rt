@@ -16,6 +16,7 @@ use plain_world::{Answer, Fault};
 use plane::Shape;
 use std::alloc::Allocator;
 use std::sync::Arc;
+use windows::Window;
 
 impl<A: Allocator + Copy> World<A> {
     /// The answer to a whole search of a seat, made at the present state, and the record of it.
@@ -25,7 +26,7 @@ impl<A: Allocator + Copy> World<A> {
     /// X9 where there are more nodes of the index to see than a search may make steps (S7), X12
     /// where an allocation is refused.
     ///
-    /// The meter counts a look-up for each id that the index finds, and none at X1 and S7.
+    /// The meter counts at most one look-up for each id that the index finds, and none at X1 and S7.
     pub fn answer(
         &self,
         seat: u32,
@@ -39,7 +40,8 @@ impl<A: Allocator + Copy> World<A> {
         ensures raised { meter.old ≤ meter.new }
     {
         self.plain.subject_at(seat)?;
-        match self.index.ids_matching(&window) {
+        let query = Window::new(window);
+        match self.index.ids_matching(&query) {
             Ok(ids) => self.plain.answer_whole(seat, window, ids, meter),
             Err(fault) => Err(fault_of(fault)),
         }

@@ -15,6 +15,7 @@ use plain_world::{Answer, Fault, SEAT_LIMIT};
 use plane::Shape;
 use search_tree::Visit;
 use std::alloc::Allocator;
+use windows::Window;
 
 impl<A: Allocator> World<A> {
     /// Gives a seat to the subject of a name, and returns its number, from 1 to `SEAT_LIMIT`. X13
@@ -55,7 +56,7 @@ impl<A: Allocator + Copy> World<A> {
         ensures walks { self.new.walks ≡ self.old.walks }
     {
         let number = self.plain.may_open(seat)?;
-        match self.index.open_search(window) {
+        match self.index.open_search(Window::new(window)) {
             Ok(_) => {
                 self.plain.enter_search(seat, window);
                 Ok(number)

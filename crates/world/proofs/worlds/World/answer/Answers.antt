@@ -4,7 +4,7 @@ use Rattle.world.proofs.WorldLemmas.{names_all}
 use Rattle.world.proofs.worlds.World.answer.Goals as goal
 
 pub answer_whole-requires : goal.answer_whole-requires
-answer_whole-requires g c = names_all c.self.inside.plain c.self.inside.index c.args.window c.in-Ok.ids.items c.self.invariant.world.serves c.in-Ok.ensures.all
+answer_whole-requires g c = names_all c.self.inside.plain c.self.inside.index c.args.window c.in-Ok.ids.items c.self.invariant.world.serves (rw c.new-query.ensures at c.in-Ok.ensures.all)
 
 pub returns-in-Ok-clause-answer : goal.returns-in-Ok-clause-answer
 returns-in-Ok-clause-answer g c = rw (← c.self.view_is) c.answer_whole.ensures.answer
