@@ -47,11 +47,11 @@ policies-fail (texts.Memory m) d h = tt
 policies-fail texts.NotJson d h = rw h refl
 policies-fail (texts.Form p) d h = rw h refl
 policies-fail (texts.UnknownKey p) d h = rw h refl
-policies-fail (texts.NameTwice n) d h = rw h refl
-policies-fail (texts.NoZone n) d h = rw h refl
-policies-fail (texts.BadZone n f) d h = rw h refl
-policies-fail texts.TooDeep d h = rw h refl
-policies-fail texts.TooMany d h = rw h refl
+policies-fail (texts.NameTwice p n) d h = rw h refl
+policies-fail (texts.NoZone p n) d h = rw h refl
+policies-fail (texts.BadZone p n f) d h = rw h refl
+policies-fail (texts.TooDeep p) d h = rw h refl
+policies-fail (texts.TooMany p) d h = rw h refl
 
 -- the items read so far, followed by those of the rest
 abbrev pub behind : List Subject → Result (List Subject) ConfigFault → Result (List Subject) ConfigFault

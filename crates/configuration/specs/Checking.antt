@@ -59,14 +59,14 @@ shape_byte (shapes.OutOfRange byte) = Some byte
 shape_byte (shapes.Bad fault) = None
 
 abbrev pub policy_byte : TextFault → Option ℕ
-policy_byte (texts.BadZone name fault) = shape_byte fault
+policy_byte (texts.BadZone path name fault) = shape_byte fault
 policy_byte texts.NotJson = None
 policy_byte (texts.Form path) = None
 policy_byte (texts.UnknownKey path) = None
-policy_byte (texts.NameTwice name) = None
-policy_byte (texts.NoZone name) = None
-policy_byte texts.TooDeep = None
-policy_byte texts.TooMany = None
+policy_byte (texts.NameTwice path name) = None
+policy_byte (texts.NoZone path name) = None
+policy_byte (texts.TooDeep path) = None
+policy_byte (texts.TooMany path) = None
 policy_byte (texts.Memory refused) = None
 
 abbrev pub byte_of : ConfigFault → Option ℕ

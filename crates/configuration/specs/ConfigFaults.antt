@@ -27,11 +27,11 @@ policies_fault (texts.Memory refused) = Memory refused
 policies_fault texts.NotJson = Policies texts.NotJson
 policies_fault (texts.Form path) = Policies (texts.Form path)
 policies_fault (texts.UnknownKey path) = Policies (texts.UnknownKey path)
-policies_fault (texts.NameTwice name) = Policies (texts.NameTwice name)
-policies_fault (texts.NoZone name) = Policies (texts.NoZone name)
-policies_fault (texts.BadZone name fault) = Policies (texts.BadZone name fault)
-policies_fault texts.TooDeep = Policies texts.TooDeep
-policies_fault texts.TooMany = Policies texts.TooMany
+policies_fault (texts.NameTwice path name) = Policies (texts.NameTwice path name)
+policies_fault (texts.NoZone path name) = Policies (texts.NoZone path name)
+policies_fault (texts.BadZone path name fault) = Policies (texts.BadZone path name fault)
+policies_fault (texts.TooDeep path) = Policies (texts.TooDeep path)
+policies_fault (texts.TooMany path) = Policies (texts.TooMany path)
 
 -- the fault is the one that reading gives, or `Memory`
 abbrev pub Fails : {Y : Type 0} → ConfigFault → Result Y ConfigFault → Type 0

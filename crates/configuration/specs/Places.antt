@@ -1,5 +1,5 @@
 -- Where in a configuration a fault is: the value at a place, and what makes it the one at fault.
-use Rattle.std.specs.Prelude.{◌≡◌, ◌-◌, ◌&&◌, ◌||◌, ℕ, Bool, true, false, not, List, [], ◌∷◌, ◌++◌, codes, length, nat_eq, nat_lt, slice_get, take, if◌then◌else◌, IsTrue, Option, None, Some, is_none, is_some, option_and_then}
+use Rattle.std.specs.Prelude.{◌≡◌, ◌-◌, ◌&&◌, ◌||◌, ℕ, Bool, true, false, not, List, [], ◌∷◌, ◌++◌, codes, length, nat_eq, nat_lt, slice_get, take, if◌then◌else◌, IsTrue, Option, None, Some, is_none, is_some, option_and_then, MatchOption}
 use Rattle.std.specs.Fmt.{decimal}
 use Rattle.std.specs.List.{flat_map, list_any}
 use Rattle.std.specs.Option.{option_map_or}
@@ -12,16 +12,14 @@ use Rattle.features.specs.Names.{name_of}
 use Rattle.features.specs.declared.actors.SubjectsFault.{SubjectsFault}
 use Rattle.features.specs.declared.actors.SubjectsFault.TheVariants as lists
 use Rattle.policy_text.specs.Pointers.{path_text}
-use Rattle.policy_text.specs.declared.faults.TextFault.{TextFault}
-use Rattle.policy_text.specs.declared.faults.TextFault.TheVariants as texts
-use Rattle.wkt.specs.Reading.{shape_of}
+use Rattle.policy_text.specs.FaultPaths.{path_of}
+use Rattle.policy_text.specs.declared.paths.PathPart.{PathPart as DocumentPart}
 use Rattle.configuration.specs.Configs.{config_keys, grid_in, key_in, key_keys, object_in, subject_keys, value_of}
 use Rattle.configuration.specs.Web.{digest_at, is_same_key, public_at}
 use Rattle.configuration.specs.declared.config_faults.ConfigFault.{ConfigFault}
 use Rattle.configuration.specs.declared.config_faults.ConfigFault.TheVariants.{NotJson, Form, Subjects, Policies, Memory}
 use Rattle.configuration.specs.declared.fields.MemberName.{MemberName}
 use Rattle.configuration.specs.declared.fields.MemberName.TheVariants as member_names
-use Rattle.configuration.specs.declared.places.TheConstants.{TOO_DEEP}
 use Rattle.configuration.specs.declared.places.PathPart.{PathPart}
 use Rattle.configuration.specs.declared.places.PathPart.TheVariants.{Item, Member}
 use Rattle.configuration.specs.declared.keys.TheConstants.{KEY_LIMIT}
@@ -179,33 +177,12 @@ is_wrong_list lists.NameTwice place d = ends_in (codes "name") place && is_name_
 is_wrong_list lists.NoneGiven place d = ends_in (codes "subjects") place
 is_wrong_list lists.TooMany place d = ends_in (codes "subjects") place
 
--- the place is one of a name of a zone, a set, a policy or a rule
-abbrev pub is_name_place : List PathPart → Bool
-is_name_place place = ends_in (codes "zone") place || ends_in (codes "set") place || ends_in
-    (codes "policy") place || ends_in (codes "rule") place
-
--- the value is a text that spells no shape
-abbrev pub is_no_shape : Data → Bool
-is_no_shape d = option_map_or (λ text. is_err (shape_of text)) (as_str d) false
-
--- the value is at fault at its place. Of a fault of the policies that has a path, this is not asked
-abbrev pub is_wrong_policy : TextFault → List PathPart → Data → Bool
-is_wrong_policy (texts.NameTwice name) place d = is_name_place place && is_text name d
-is_wrong_policy (texts.NoZone name) place d = ends_in (codes "zone") place && is_text name d
-is_wrong_policy (texts.BadZone name fault) place d = ends_in (codes "shape") place && is_no_shape d
-is_wrong_policy texts.TooDeep place d = nat_eq (length place) TOO_DEEP
-is_wrong_policy texts.TooMany place d = not (ends_in (codes "policies") place)
-is_wrong_policy texts.NotJson place d = false
-is_wrong_policy (texts.Form path) place d = false
-is_wrong_policy (texts.UnknownKey path) place d = false
-is_wrong_policy (texts.Memory refused) place d = false
-
--- the value at a place of a configuration, if there is one, is the one at fault
+-- the value at a place of a configuration, if there is one, is the one at fault. Of a fault of the
+-- policies, which has its path, this is not asked
 abbrev pub is_wrong : ConfigFault → Data → List PathPart → Option Data → Bool
 is_wrong Form config place value = is_wrong_form config place value
 is_wrong (Subjects fault) config place value = option_map_or (is_wrong_list fault place) value false
-is_wrong (Policies fault) config place value = option_map_or (is_wrong_policy fault place) value
-    false
+is_wrong (Policies fault) config place value = false
 is_wrong NotJson config place value = false
 is_wrong (Memory refused) config place value = false
 
@@ -213,11 +190,11 @@ is_wrong (Memory refused) config place value = false
 abbrev pub IsWrongAt : ConfigFault → List PathPart → Data → Type 0
 IsWrongAt fault place d = IsTrue (is_wrong fault d place (value_at place d))
 
--- the place of a fault leads to the value at fault: it has the path of the fault, where that has
--- one
+-- the place is the one to which the path leads from the policies
+abbrev pub IsInPolicies : List PathPart → List DocumentPart → Type 0
+IsInPolicies place path = place_text place ≡ codes "/policies" ++ path_text path
+
+-- the place of a fault leads to the value at fault: that of a fault of the policies has its path
 abbrev pub LeadsTo : ConfigFault → List PathPart → Data → Type 0
-LeadsTo (Policies (texts.Form path)) place d =
-    place_text place ≡ codes "/policies" ++ path_text path
-LeadsTo (Policies (texts.UnknownKey path)) place d =
-    place_text place ≡ codes "/policies" ++ path_text path
+LeadsTo (Policies fault) place d = MatchOption (path_of fault) ⊥ (IsInPolicies place)
 LeadsTo fault place d = IsWrongAt fault place d

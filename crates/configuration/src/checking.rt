@@ -32,7 +32,7 @@ pub enum Checked<A: Allocator> {
 fn byte_of(fault: &ConfigFault) -> Option<usize>
     ensures { result ≡ byte_of fault.now }
 {
-    let ConfigFault::Policies(TextFault::BadZone(_, shape)) = fault else {
+    let ConfigFault::Policies(TextFault::BadZone(_, _, shape)) = fault else {
         return None;
     };
     match shape {

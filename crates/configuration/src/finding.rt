@@ -11,7 +11,6 @@ use crate::fields::{MemberName, array_in, is_object_of, name_in, value_in};
 use crate::grids::grid_in;
 use crate::keys::{KEY_KEYS, digest_at};
 use crate::places::{PathPart, Place, value_at};
-use crate::searches::find_in_policies;
 use crate::web::public_at;
 use crate::web_faults::{
     is_no_collection, is_no_key, is_no_key_list, is_no_list, is_subject_in, items_under,
@@ -19,7 +18,7 @@ use crate::web_faults::{
 use crate::wrongs::is_wrong;
 use features::SubjectsFault;
 use memory::{GrowVec, NoMemory};
-use policy_text::{Path, PathPart as DocumentPart, TextFault};
+use policy_text::{Path, PathPart as DocumentPart};
 use serde_json::Value;
 use std::alloc::Allocator;
 
@@ -204,7 +203,8 @@ fn find_list<A: Allocator>(
     Ok(())
 }
 
-/// A place that may be that of a fault.
+/// A place that may be that of a fault. Of a fault of the policies, which has its path, none is
+/// looked for.
 fn find<A: Allocator>(
     alloc: A,
     fault: &ConfigFault,
@@ -214,13 +214,7 @@ fn find<A: Allocator>(
     match fault {
         ConfigFault::Form => find_form(value, &mut place)?,
         ConfigFault::Subjects(fault) => find_list(*fault, value, &mut place)?,
-        ConfigFault::Policies(fault) => {
-            if let Some(policies) = value_in(value, MemberName::Policies) {
-                place.try_push(PathPart::Member("policies"))?;
-                find_in_policies(fault, policies, &mut place)?;
-            }
-        }
-        ConfigFault::NotJson | ConfigFault::Memory(_) => {}
+        ConfigFault::Policies(_) | ConfigFault::NotJson | ConfigFault::Memory(_) => {}
     }
     Ok(place)
 }
@@ -251,11 +245,12 @@ pub(crate) fn place_of<A: Allocator>(
     ensures { IfOk result
         (λ found. IfSome found (λ place. LeadsTo fault.now place.parts.items (view value.now))) }
 {
-    match fault {
-        ConfigFault::Policies(TextFault::Form(path) | TextFault::UnknownKey(path)) => {
-            let parts = path_place(alloc, path)?;
-            Ok(Some(Place { parts }))
-        }
-        fault => place_found(alloc, fault, value),
-    }
+    let ConfigFault::Policies(fault) = fault else {
+        return place_found(alloc, fault, value);
+    };
+    let Some(path) = fault.path() else {
+        return Ok(None);
+    };
+    let parts = path_place(alloc, &path)?;
+    Ok(Some(Place { parts }))
 }

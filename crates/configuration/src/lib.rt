@@ -11,7 +11,6 @@ mod grids;
 mod keys;
 mod laws;
 mod places;
-mod searches;
 mod summaries;
 mod texts;
 mod web;

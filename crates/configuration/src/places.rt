@@ -8,10 +8,6 @@ use serde_json::Value;
 use std::alloc::Allocator;
 use std::fmt;
 
-/// How many parts lead to a set or a policy that nests too deep: to the root, two, and from each of
-/// eight sets to the one below it, two.
-pub const TOO_DEEP: usize = 18;
-
 /// One part of a place: to the value under a key, or to an item of an array, counted from 0.
 #[derive(Clone, Copy, Debug)]
 pub enum PathPart {

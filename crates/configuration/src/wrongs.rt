@@ -2,23 +2,21 @@
 
 ghost use Rattle.std.specs.Prelude.{◌≡◌, option_map};
 ghost use Rattle.serde_json.specs.View.{view};
-ghost use Rattle.configuration.specs.Places.{is_name_place, is_needed, is_no_shape, is_wrong, is_wrong_form, is_wrong_item, is_wrong_list, is_wrong_member, is_wrong_policy, is_wrong_there, last_part};
+ghost use Rattle.configuration.specs.Places.{is_needed, is_wrong, is_wrong_form, is_wrong_item, is_wrong_list, is_wrong_member, is_wrong_there, last_part};
 
 use crate::config_faults::ConfigFault;
 use crate::configs::{CONFIG_KEYS, SUBJECT_KEYS};
 use crate::fields::is_object_of;
 use crate::grids::grid_in;
 use crate::keys::digest_at;
-use crate::places::{PathPart, TOO_DEEP, begins_in, ends_in};
-use crate::texts::{is_name_text, is_text};
+use crate::places::{PathPart, begins_in, ends_in};
+use crate::texts::is_name_text;
 use crate::web::public_at;
 use crate::web_faults::{
     is_no_collection, is_no_key, is_no_key_list, is_no_list, is_no_trust, is_subject_in,
 };
 use features::SubjectsFault;
-use policy_text::TextFault;
 use serde_json::Value;
-use wkt::read_shape;
 
 /// Whether the value under a key of a configuration, or of one of its subjects or keys, has not the
 /// form that is wanted there.
@@ -112,42 +110,8 @@ fn is_wrong_list(fault: SubjectsFault, place: &[PathPart], value: &Value) -> boo
     }
 }
 
-/// Whether a place is one of a name of a zone, a set, a policy or a rule.
-fn is_name_place(place: &[PathPart]) -> bool
-    ensures { result ≡ is_name_place place.now }
-{
-    ends_in("zone", place)
-        || ends_in("set", place)
-        || ends_in("policy", place)
-        || ends_in("rule", place)
-}
-
-/// Whether a value is a text that spells no shape.
-fn is_no_shape(value: &Value) -> bool
-    ensures { result ≡ is_no_shape (view value.now) }
-{
-    match value.as_str() {
-        Some(text) => read_shape(text.as_bytes()).is_err(),
-        None => false,
-    }
-}
-
-/// Whether a value is at fault with this fault of the policies, which has no path.
-fn is_wrong_policy(fault: &TextFault, place: &[PathPart], value: &Value) -> bool
-    ensures { result ≡ is_wrong_policy fault.now place.now (view value.now) }
-{
-    match fault {
-        TextFault::NameTwice(name) => is_name_place(place) && is_text(name.as_bytes(), value),
-        TextFault::NoZone(name) => ends_in("zone", place) && is_text(name.as_bytes(), value),
-        TextFault::BadZone(_, _) => ends_in("shape", place) && is_no_shape(value),
-        TextFault::TooDeep => place.len() == TOO_DEEP,
-        TextFault::TooMany => !ends_in("policies", place),
-        TextFault::NotJson | TextFault::Form(_) | TextFault::UnknownKey(_) | TextFault::Memory(_) =>
-            false,
-    }
-}
-
-/// Whether the value at a place of a configuration is the one at fault.
+/// Whether the value at a place of a configuration is the one at fault. Of a fault of the policies,
+/// which has its path, this is not asked.
 pub(crate) fn is_wrong(
     fault: &ConfigFault,
     config: &Value,
@@ -160,7 +124,6 @@ pub(crate) fn is_wrong(
     match (fault, value) {
         (ConfigFault::Form, _) => is_wrong_form(config, place, value),
         (ConfigFault::Subjects(fault), Some(value)) => is_wrong_list(*fault, place, value),
-        (ConfigFault::Policies(fault), Some(value)) => is_wrong_policy(fault, place, value),
         _ => false,
     }
 }

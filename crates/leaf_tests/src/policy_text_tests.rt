@@ -93,7 +93,7 @@ D2 at /zones: {"zones":null}
 D2 at /root: {"zones":[1]}
 D2 at /zones: {"root":1,"zones":{}}
 D2 at /zones/0: {"root":1,"zones":[1]}
-D6 z Syntax(8): {"root":1,"zones":[{"shape":"POINT (1)","zone":"z"},1]}"#;
+D6 at /zones/0/shape z Syntax(8): {"root":1,"zones":[{"shape":"POINT (1)","zone":"z"},1]}"#;
 
 const NODE_TEXTS: &str = r#"D2 at /root: []
 D2 at /root: null
@@ -113,7 +113,7 @@ D2 at /root/combine: {"combine":1,"of":[],"set":"s"}
 D2 at /root/of: {"combine":"deny-overrides","set":"s"}
 D2 at /root/of: {"combine":"deny-overrides","of":{},"set":"s"}
 D2 at /root/of/0: {"combine":"deny-overrides","of":[1],"set":"s"}
-D4 s: {"combine":"deny-overrides","of":[{"combine":"deny-overrides","policy":"s","rules":[]}],"set":"s"}
+D4 at /root/of/0/policy s: {"combine":"deny-overrides","of":[{"combine":"deny-overrides","policy":"s","rules":[]}],"set":"s"}
 D3 at /root: {"policy":1,"x":1}
 D2 at /root/policy: {"combine":1,"policy":1,"rules":1,"target":1}
 D2 at /root/combine: {"combine":1,"policy":"p","rules":1,"target":1}
@@ -126,10 +126,10 @@ D2 at /root/target/0: {"combine":"deny-overrides","of":[1],"set":"s","target":[1
 
 /// The form of an object is checked before its name, and its name before its contents.
 const CHILD_TEXTS: &str = r#"D2 at /root/of/0/rules: {"combine":"deny-overrides","policy":"s"}
-D4 s: {"combine":"deny-overrides","policy":"s","rules":[1],"target":[1]}
+D4 at /root/of/0/policy s: {"combine":"deny-overrides","policy":"s","rules":[1],"target":[1]}
 D2 at /root/of/0/rules/0: {"combine":"deny-overrides","policy":"p","rules":[1]},1
 D2 at /root/of/1: {"combine":"deny-overrides","policy":"p","rules":[]},1
-D4 p: {"combine":"deny-overrides","policy":"p","rules":[]},{"combine":"deny-overrides","of":[],"set":"p"}
+D4 at /root/of/1/set p: {"combine":"deny-overrides","policy":"p","rules":[]},{"combine":"deny-overrides","of":[],"set":"p"}
 D3 at /root/of/1: {"combine":"deny-overrides","policy":"p","rules":[]},{"combine":"deny-overrides","of":[],"set":"p","x":1}"#;
 
 const TARGET_TEXTS: &str = r#"D2 at /root/target: null
@@ -151,14 +151,14 @@ D2 at /root/rules/0/effect: {"effect":"Deny","rule":"r"}
 D2 at /root/rules/0/target: {"effect":"deny","rule":"r","target":null}
 D2 at /root/rules/0/when: {"effect":"deny","rule":"r","when":null}
 D3 at /root/rules/0: {"effect":"deny","rule":"r","of":1}
-D4 p: {"effect":"deny","rule":"p"}
-D4 r: {"effect":"deny","rule":"r"},{"effect":"permit","rule":"r"}
+D4 at /root/rules/0/rule p: {"effect":"deny","rule":"p"}
+D4 at /root/rules/1/rule r: {"effect":"deny","rule":"r"},{"effect":"permit","rule":"r"}
 D3 at /root/rules/0: {"effect":1,"rule":1,"target":1,"when":1,"x":1}
 D2 at /root/rules/0/rule: {"effect":1,"rule":1,"target":1,"when":1}
 D2 at /root/rules/0/effect: {"effect":1,"rule":"p","target":1,"when":1}
 D2 at /root/rules/0/target: {"effect":"deny","rule":"p","target":1,"when":1}
 D2 at /root/rules/0/when: {"effect":"deny","rule":"p","target":[1],"when":1}
-D4 p: {"effect":"deny","rule":"p","target":[1],"when":[1]}
+D4 at /root/rules/0/rule p: {"effect":"deny","rule":"p","target":[1],"when":[1]}
 D2 at /root/rules/0/target/0: {"effect":"deny","rule":"r","target":[1],"when":[1]},1
 D2 at /root/rules/0/when/0: {"effect":"deny","rule":"r","when":[1]},1"#;
 
@@ -175,7 +175,7 @@ D2 at /root/target/0/0/0/owner: {"owner":1}
 D2 at /root/target/0/0/0/action: {"action":"paint"}
 D2 at /root/target/0/0/0/action: {"action":null}
 D2 at /root/target/0/0/0/zone: {"zone":"Z"}
-D5 z: {"zone":"z"}"#;
+D5 at /root/target/0/0/0/zone z: {"zone":"z"}"#;
 
 const ATOM_TEXTS: &str = r#"D2 at /root/rules/0/when/0: null
 D2 at /root/rules/0/when/0: {"own":true,"class":"a"}
@@ -189,20 +189,20 @@ D2 at /root/rules/0/when/0/not: {"not":{"class":"a","role":"b"}}
 D3 at /root/rules/0/when/0/not: {"not":{"not":{"own":true}}}
 D2 at /root/rules/0/when/0/not/own: {"not":{"own":false}}
 D2 at /root/rules/0/when/0/not/class: {"not":{"class":1}}
-D5 z: {"zone":"z"}
-D5 quay: {"not":{"zone":"quay"}}"#;
+D5 at /root/rules/0/when/0/zone z: {"zone":"z"}
+D5 at /root/rules/0/when/0/not/zone quay: {"not":{"zone":"quay"}}"#;
 
 const ZONE_TEXTS: &str = r#"D2 at /zones/0: null
 D2 at /zones/0/zone: {"shape":"POINT (1 2)"}
 D2 at /zones/0/shape: {"zone":"z"}
 D2 at /zones/0/shape: {"shape":null,"zone":"z"}
 D3 at /zones/0: {"name":"z","zone":"z"}
-D6 z Syntax(8): {"shape":"POINT (1)","zone":"z"}
-D6 z Bad(SameEnds): {"shape":"LINESTRING (1 1, 1 1)","zone":"z"}
-D4 z: {"shape":"POINT (1 2)","zone":"z"},{"shape":"POINT (3 4)","zone":"z"}
+D6 at /zones/0/shape z Syntax(8): {"shape":"POINT (1)","zone":"z"}
+D6 at /zones/0/shape z Bad(SameEnds): {"shape":"LINESTRING (1 1, 1 1)","zone":"z"}
+D4 at /zones/1/zone z: {"shape":"POINT (1 2)","zone":"z"},{"shape":"POINT (3 4)","zone":"z"}
 D3 at /zones/0: {"shape":1,"zone":1,"x":1}
 D2 at /zones/0/zone: {"shape":1,"zone":1}
-D6 z Syntax(5): {"shape":"POINT (1 2)","zone":"z"},{"shape":"POINT","zone":"z"}
+D6 at /zones/1/shape z Syntax(5): {"shape":"POINT (1 2)","zone":"z"},{"shape":"POINT","zone":"z"}
 D2 at /zones/1: {"shape":"POINT (1 2)","zone":"z"},[]"#;
 
 /// Of equal keys the last one counts. An object with the key `set` is a set, whatever its value. An
@@ -225,16 +225,19 @@ D2 at /root: {"root":1e300}
 D1: {"root":1,}
 D1: {'root':1}"#;
 
-/// A fault in words: its code, and its path, its name, or its name and the fault of the zone's
-/// shape.
+/// A fault in words: its code, its path if it has one, then its name, or its name and the fault of
+/// the zone's shape.
 fn told(heap: Global, fault: TextFault) -> Result<String, AllocError> {
+    let Some(path) = fault.path() else {
+        return format!(in heap; "{fault}");
+    };
     match fault {
-        TextFault::Form(path) => format!(in heap; "{fault} at {path}"),
-        TextFault::UnknownKey(path) => format!(in heap; "{fault} at {path}"),
-        TextFault::NameTwice(name) => format!(in heap; "{fault} {name}"),
-        TextFault::NoZone(name) => format!(in heap; "{fault} {name}"),
-        TextFault::BadZone(name, shape) => format!(in heap; "{fault} {name} {shape:?}"),
-        _ => format!(in heap; "{fault}"),
+        TextFault::NameTwice(_, name) => format!(in heap; "{fault} at {path} {name}"),
+        TextFault::NoZone(_, name) => format!(in heap; "{fault} at {path} {name}"),
+        TextFault::BadZone(_, name, shape) => format!(in heap;
+            "{fault} at {path} {name} {shape:?}"
+        ),
+        _ => format!(in heap; "{fault} at {path}"),
     }
 }
 
@@ -390,30 +393,30 @@ fn depth_of_json(rt: HostRuntime) -> Result<(), Fail> {
 /// and the result of reading it. The content of a `not` is checked after the `not` is counted, and
 /// before its own match is counted.
 const LIMITS: &str = r#"512 rules  => read
-513 rules  => D8
-512 rules ,{"effect":"deny","rule":"r7"} => D4 r7
+513 rules  => D8 at /root/rules/512
+512 rules ,{"effect":"deny","rule":"r7"} => D4 at /root/rules/512/rule r7
 512 rules ,1 => D2 at /root/rules/512
-512 rules ,{"effect":"deny","rule":"x","target":[1]} => D8
+512 rules ,{"effect":"deny","rule":"x","target":[1]} => D8 at /root/rules/512
 511 policies  => read
-512 policies  => D8
+512 policies  => D8 at /root/of/511
 511 sets  => read
-512 sets  => D8
-511 policies ,{"combine":"deny-overrides","rules":[],"policy":"s"} => D4 s
+512 sets  => D8 at /root/of/511
+511 policies ,{"combine":"deny-overrides","rules":[],"policy":"s"} => D4 at /root/of/511/policy s
 64 zones  => read
-65 zones  => D8
-64 zones ,{"shape":"POINT (1 2)","zone":"z7"} => D4 z7
+65 zones  => D8 at /zones/64
+64 zones ,{"shape":"POINT (1 2)","zone":"z7"} => D4 at /zones/64/zone z7
 4096 matches  => read
-4097 matches  => D8
-4096 matches ,{"zone":"z"} => D5 z
+4097 matches  => D8 at /root/target/0/0/4096
+4096 matches ,{"zone":"z"} => D5 at /root/target/0/0/4096/zone z
 4096 atoms  => read
-4096 atoms ,{"own":true} => D8
-4096 atoms ,{"zone":"z"} => D5 z
+4096 atoms ,{"own":true} => D8 at /root/rules/0/when/4096
+4096 atoms ,{"zone":"z"} => D5 at /root/rules/0/when/4096/zone z
 2048 negations  => read
-2049 negations  => D8
+2049 negations  => D8 at /root/rules/0/when/2048
 4094 atoms ,{"not":{"own":true}} => read
-4095 atoms ,{"not":{"own":true}} => D8
+4095 atoms ,{"not":{"own":true}} => D8 at /root/rules/0/when/4095/not
 4095 atoms ,{"not":1} => D2 at /root/rules/0/when/4095/not
-4096 atoms ,{"not":1} => D8
+4096 atoms ,{"not":1} => D8 at /root/rules/0/when/4096
 "#;
 
 /// The texts around the parts of a kind, and those around the number in each part.
@@ -470,13 +473,13 @@ fn limits_of_documents(rt: HostRuntime) -> Result<(), Fail> {
 
 /// How many sets are nested, the content of the innermost, and the result of reading the document.
 const DEPTHS: &str = r#"8  => read
-9  => D7
+9  => D7 at /root/of/0/of/0/of/0/of/0/of/0/of/0/of/0/of/0
 7 {"combine":"deny-overrides","policy":"p","rules":[]} => read
-8 {"combine":"deny-overrides","policy":"p","rules":[]} => D7
+8 {"combine":"deny-overrides","policy":"p","rules":[]} => D7 at /root/of/0/of/0/of/0/of/0/of/0/of/0/of/0/of/0
 7 1 => D2 at /root/of/0/of/0/of/0/of/0/of/0/of/0/of/0
-8 1 => D7
+8 1 => D7 at /root/of/0/of/0/of/0/of/0/of/0/of/0/of/0/of/0
 7 {"combine":"deny-overrides","policy":"p","rules":[{"effect":"deny","rule":"r","target":[[[{"class":1}]]]}]} => D2 at /root/of/0/of/0/of/0/of/0/of/0/of/0/of/0/rules/0/target/0/0/0/class
-8 {"combine":"deny-overrides","policy":"p","rules":[{"effect":"deny","rule":"r","target":[[[{"class":1}]]]}]} => D7
+8 {"combine":"deny-overrides","policy":"p","rules":[{"effect":"deny","rule":"r","target":[[[{"class":1}]]]}]} => D7 at /root/of/0/of/0/of/0/of/0/of/0/of/0/of/0/of/0
 "#;
 
 fn check_depth(rt: &impl Abort, heap: Global, line: &str) -> Result<(), AllocError> {

@@ -32,16 +32,17 @@ asking_data asking.Memory = problem_data Unavailable (codes "memory") (Some 1)
 abbrev pub place_data : List ℕ → List PathPart → AnswerData
 place_data code path = detailed_data Unprocessable code (place_member (path_text path))
 
--- a body that is no document: no JSON, or JSON of which no policy can be made
+-- a body that is no document: no JSON, or JSON of which no policy can be made; the place of a fault
+-- of that is told
 abbrev pub unread_data : TextFault → AnswerData
 unread_data unread.NotJson = problem_data BadRequest (codes "D1") None
 unread_data (unread.Form path) = place_data (codes "D2") path
 unread_data (unread.UnknownKey path) = place_data (codes "D3") path
-unread_data (unread.NameTwice name) = problem_data Unprocessable (codes "D4") None
-unread_data (unread.NoZone name) = problem_data Unprocessable (codes "D5") None
-unread_data (unread.BadZone name fault) = problem_data Unprocessable (codes "D6") None
-unread_data unread.TooDeep = problem_data Unprocessable (codes "D7") None
-unread_data unread.TooMany = problem_data Unprocessable (codes "D8") None
+unread_data (unread.NameTwice path name) = place_data (codes "D4") path
+unread_data (unread.NoZone path name) = place_data (codes "D5") path
+unread_data (unread.BadZone path name fault) = place_data (codes "D6") path
+unread_data (unread.TooDeep path) = place_data (codes "D7") path
+unread_data (unread.TooMany path) = place_data (codes "D8") path
 unread_data (unread.Memory refused) = refusal_data (Memory refused)
 
 -- a request at fault (RFC 9110, 15.5)

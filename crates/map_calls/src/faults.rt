@@ -82,11 +82,11 @@ fn unread_answer(heap: Global, fault: TextFault) -> Result<Answer<Global>, NoMem
         TextFault::NotJson => plain(heap, Status::BadRequest, "D1"),
         TextFault::Form(path) => placed(heap, "D2", &path),
         TextFault::UnknownKey(path) => placed(heap, "D3", &path),
-        TextFault::NameTwice(_) => plain(heap, Status::Unprocessable, "D4"),
-        TextFault::NoZone(_) => plain(heap, Status::Unprocessable, "D5"),
-        TextFault::BadZone(_, _) => plain(heap, Status::Unprocessable, "D6"),
-        TextFault::TooDeep => plain(heap, Status::Unprocessable, "D7"),
-        TextFault::TooMany => plain(heap, Status::Unprocessable, "D8"),
+        TextFault::NameTwice(path, _) => placed(heap, "D4", &path),
+        TextFault::NoZone(path, _) => placed(heap, "D5", &path),
+        TextFault::BadZone(path, _, _) => placed(heap, "D6", &path),
+        TextFault::TooDeep(path) => placed(heap, "D7", &path),
+        TextFault::TooMany(path) => placed(heap, "D8", &path),
         TextFault::Memory(no_memory) => refused(heap, &Refusal::Memory(no_memory)),
     }
 }

@@ -56,12 +56,12 @@ name_in-spelled key path d name = under (option_and_then as_str (value_of key d)
     under (Some text) told = of_test (spelling.is_name text) text refl told
 
 -- one more name, which was not seen before
-pub fresh-read : (name : List ℕ) (before after : List (List ℕ)) → fresh name before ≡ Ok after → (list_any (same_name name) before ≡ false) × (before ++ name ∷ [] ≡ after)
-fresh-read name before after told = passed (list_any (same_name name) before) (before ++ name ∷ []) after _ told
+pub fresh-read : (path : List PathPart) (name : List ℕ) (before after : List (List ℕ)) → fresh path name before ≡ Ok after → (list_any (same_name name) before ≡ false) × (before ++ name ∷ [] ≡ after)
+fresh-read path name before after told = passed (list_any (same_name name) before) (before ++ name ∷ []) after _ told
 
 -- one more, below the limit
-pub within-read : (limit before after : ℕ) → within limit before ≡ Ok after → (before < limit) × (before + 1 ≡ after)
-within-read limit before after told =
+pub within-read : (path : List PathPart) (limit before after : ℕ) → within path limit before ≡ Ok after → (before < limit) × (before + 1 ≡ after)
+within-read path limit before after told =
     let t = taken (nat_lt before limit) (before + 1) after _ told in (ltb-true before limit t.0, t.1)
 
 -- the items of an array that is not empty

@@ -17,22 +17,22 @@ Fails-bind (faults.Memory m) r k h = tt
 Fails-bind faults.NotJson r k h = ap (λ s. s >>= k) h
 Fails-bind (faults.Form p) r k h = ap (λ s. s >>= k) h
 Fails-bind (faults.UnknownKey p) r k h = ap (λ s. s >>= k) h
-Fails-bind (faults.NameTwice n) r k h = ap (λ s. s >>= k) h
-Fails-bind (faults.NoZone n) r k h = ap (λ s. s >>= k) h
-Fails-bind (faults.BadZone n f) r k h = ap (λ s. s >>= k) h
-Fails-bind faults.TooDeep r k h = ap (λ s. s >>= k) h
-Fails-bind faults.TooMany r k h = ap (λ s. s >>= k) h
+Fails-bind (faults.NameTwice p n) r k h = ap (λ s. s >>= k) h
+Fails-bind (faults.NoZone p n) r k h = ap (λ s. s >>= k) h
+Fails-bind (faults.BadZone p n f) r k h = ap (λ s. s >>= k) h
+Fails-bind (faults.TooDeep p) r k h = ap (λ s. s >>= k) h
+Fails-bind (faults.TooMany p) r k h = ap (λ s. s >>= k) h
 
 pub Fails-from : {X : Type 0} (e : TextFault) (r : Result X TextFault) → r ≡ Err e → Fails e r
 Fails-from (faults.Memory m) r h = tt
 Fails-from faults.NotJson r h = h
 Fails-from (faults.Form p) r h = h
 Fails-from (faults.UnknownKey p) r h = h
-Fails-from (faults.NameTwice n) r h = h
-Fails-from (faults.NoZone n) r h = h
-Fails-from (faults.BadZone n f) r h = h
-Fails-from faults.TooDeep r h = h
-Fails-from faults.TooMany r h = h
+Fails-from (faults.NameTwice p n) r h = h
+Fails-from (faults.NoZone p n) r h = h
+Fails-from (faults.BadZone p n f) r h = h
+Fails-from (faults.TooDeep p) r h = h
+Fails-from (faults.TooMany p) r h = h
 
 is_empty-length : (vs : List Value) → is_empty (items_view vs) ≡ nat_eq (length vs) 0
 is_empty-length [] = refl

@@ -1,5 +1,5 @@
 -- Comparing faults: the derived test decides `≡`.
-use Rattle.std.proofs.Common.{◌≡◌, ◌↔◌, true, ◌&&◌, refl, ap, IsTrue}
+use Rattle.std.proofs.Common.{◌≡◌, ◌↔◌, ℕ, List, true, ◌&&◌, refl, ap, IsTrue}
 use Rattle.std.proofs.lemmas.Bool.{false≢true}
 use Rattle.std.specs.Cmp.{first_so, second_so, unsigned_Decides}
 use Rattle.std.specs.Cmp.Lexicographic.{bytes_decides}
@@ -11,9 +11,10 @@ use Rattle.wkt.specs.declared.fault.WktFault.{WktFault}
 use Rattle.wkt.specs.declared.fault.WktFault.TheVariants as texts
 use Rattle.plane.specs.Equality.{decides_by}
 use Rattle.features.specs.Equality.{same_name}
-use Rattle.policy_text.specs.Places.{same_path_decides}
+use Rattle.policy_text.specs.Places.{same_path, same_path_decides}
 use Rattle.policy_text.specs.contracts.faults.TextFaultPartialEq.TheImpl as comparing
 use Rattle.policy_text.specs.declared.faults.TextFault.{TextFault}
+use Rattle.policy_text.specs.declared.paths.PathPart.{PathPart}
 use Rattle.policy_text.specs.declared.faults.TextFault.TheVariants as faults
 
 shape_fault-itself : (a : ShapeFault) → shaping.eq-value.it a a ≡ true
@@ -58,28 +59,37 @@ wkt_fault-told a b e = absurd (false≢true e)
 
 text_fault-itself : (a : TextFault) → comparing.eq-value.it a a ≡ true
 text_fault-itself faults.NotJson = refl
-text_fault-itself faults.TooDeep = refl
-text_fault-itself faults.TooMany = refl
 text_fault-itself (faults.Memory m) = refl
 text_fault-itself (faults.Form path) = (same_path_decides path path).1 refl
 text_fault-itself (faults.UnknownKey path) = (same_path_decides path path).1 refl
-text_fault-itself (faults.NameTwice name) = (bytes_decides name name).1 refl
-text_fault-itself (faults.NoZone name) = (bytes_decides name name).1 refl
-text_fault-itself (faults.BadZone name fault) = λ i. (bytes_decides name name).1 refl i && wkt_fault-itself fault i
+text_fault-itself (faults.TooDeep path) = (same_path_decides path path).1 refl
+text_fault-itself (faults.TooMany path) = (same_path_decides path path).1 refl
+text_fault-itself (faults.NameTwice path name) = λ i. (same_path_decides path path).1 refl i && (bytes_decides name name).1 refl i
+text_fault-itself (faults.NoZone path name) = λ i. (same_path_decides path path).1 refl i && (bytes_decides name name).1 refl i
+text_fault-itself (faults.BadZone path name fault) = λ i. (same_path_decides path path).1 refl i && ((bytes_decides name name).1 refl i && wkt_fault-itself fault i)
+
+-- the same path and the same name
+named_told : (p q : List PathPart) (a b : List ℕ) → (same_path p q && same_name a b) ≡ true → (p ≡ q) × (a ≡ b)
+named_told p q a b e =
+    ((same_path_decides p q).0 (first_so (same_path p q) (same_name a b) e), (bytes_decides a b).0 (second_so (same_path p q) (same_name a b) e))
 
 text_fault-told : (a b : TextFault) → comparing.eq-value.it a b ≡ true → a ≡ b
 text_fault-told faults.NotJson faults.NotJson e = refl
-text_fault-told faults.TooDeep faults.TooDeep e = refl
-text_fault-told faults.TooMany faults.TooMany e = refl
 text_fault-told (faults.Memory m) (faults.Memory n) e = refl
 text_fault-told (faults.Form a) (faults.Form b) e = ap faults.Form ((same_path_decides a b).0 e)
 text_fault-told (faults.UnknownKey a) (faults.UnknownKey b) e = ap faults.UnknownKey ((same_path_decides a b).0 e)
-text_fault-told (faults.NameTwice a) (faults.NameTwice b) e = ap faults.NameTwice ((bytes_decides a b).0 e)
-text_fault-told (faults.NoZone a) (faults.NoZone b) e = ap faults.NoZone ((bytes_decides a b).0 e)
-text_fault-told (faults.BadZone m a) (faults.BadZone n b) e =
-    let name = (bytes_decides m n).0 (first_so (same_name m n) (reading.eq-value.it a b) e) in
-    let fault = wkt_fault-told a b (second_so (same_name m n) (reading.eq-value.it a b) e) in
-    λ i. faults.BadZone (name i) (fault i)
+text_fault-told (faults.TooDeep a) (faults.TooDeep b) e = ap faults.TooDeep ((same_path_decides a b).0 e)
+text_fault-told (faults.TooMany a) (faults.TooMany b) e = ap faults.TooMany ((same_path_decides a b).0 e)
+text_fault-told (faults.NameTwice p a) (faults.NameTwice q b) e =
+    let both = named_told p q a b e in λ i. faults.NameTwice (both.0 i) (both.1 i)
+text_fault-told (faults.NoZone p a) (faults.NoZone q b) e =
+    let both = named_told p q a b e in λ i. faults.NoZone (both.0 i) (both.1 i)
+text_fault-told (faults.BadZone p m a) (faults.BadZone q n b) e =
+    let path = (same_path_decides p q).0 (first_so (same_path p q) (same_name m n && reading.eq-value.it a b) e) in
+    let rest = second_so (same_path p q) (same_name m n && reading.eq-value.it a b) e in
+    let name = (bytes_decides m n).0 (first_so (same_name m n) (reading.eq-value.it a b) rest) in
+    let fault = wkt_fault-told a b (second_so (same_name m n) (reading.eq-value.it a b) rest) in
+    λ i. faults.BadZone (path i) (name i) (fault i)
 text_fault-told a b e = absurd (false≢true e)
 
 -- `==` on faults is exact

@@ -32,3 +32,4 @@ pub mod DocumentLaws
 pub mod BytesLemmas
 pub mod PlaceLemmas
 pub mod FaultLemmas
+pub mod FaultPathLaws

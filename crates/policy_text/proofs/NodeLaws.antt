@@ -28,11 +28,11 @@ module _ (zones : List Zone) (levels : ℕ) where
       bound (object_in rule_keys path d) _ r told (λ _ _ a. bound (name_in member_names.Rule path d) _ r a (λ name spelled b. bound (effect_in path d) _ r b (λ effect _ c.
       bound (optional_array_in member_names.Target path d) _ r c (λ target _ e. bound (optional_array_in member_names.When path d) _ r e (λ when _ f. bound _ _ r f (λ names new g.
       bound _ _ r g (λ rules more h. bound _ _ r h (λ t target_read i. bound _ _ r i (λ w when_read end.
-      let n = within-read 512 s.rules rules more in
+      let n = within-read path 512 s.rules rules more in
       let tested = target_and_when s.tests t.1 w.1 _ _ (target_matches t.0) _ (is_target t.0)
       (target_at-tested zones (at_key path member_names.Target) s.tests target t target_read) (when_at-tested zones (at_key path member_names.When) t.1 when w when_read) in
       subst (λ q. IsSound zones levels s (rule_contents q.0) q.1) (same_value _ r end)
-      (own_sound zones levels s (record { names = names; nodes = s.nodes; rules = rules; tests = w.1 }) name 0 1 _ _ t.0
+      (own_sound zones levels s (record { names = names; nodes = s.nodes; rules = rules; tests = w.1 }) (at_key path member_names.Rule) name 0 1 _ _ t.0
       (name_in-spelled member_names.Rule path d name spelled) new (omega arith) (sym n.1) (λ low. low) (λ _. omega (arith, n.0, n.1)) tested))))))))))
 
   -- the head of a set or a policy
@@ -43,9 +43,9 @@ module _ (zones : List Zone) (levels : ℕ) where
       bound (object_in listed path d) _ r told (λ _ _ a. bound (name_in name_key path d) _ r a (λ name spelled b. bound (algorithm_in path d) _ r b (λ combine _ c.
       bound (optional_array_in member_names.Target path d) _ r c (λ target _ e. bound (array_in children path d) _ r e (λ items _ f. bound _ _ r f (λ names new g.
       bound _ _ r g (λ nodes more h. bound _ _ r h (λ t target_read end.
-      let n = within-read 512 s.nodes nodes more in
+      let n = within-read path 512 s.nodes nodes more in
       subst (λ q. IsSound zones levels s (head_contents q.0) q.1.0) (same_value _ r end)
-      (own_sound zones levels s (record { names = names; nodes = nodes; rules = s.rules; tests = t.1 }) name 1 0 _ (target_matches t.0) t.0
+      (own_sound zones levels s (record { names = names; nodes = nodes; rules = s.rules; tests = t.1 }) (at_key path name_key) name 1 0 _ (target_matches t.0) t.0
       (name_in-spelled name_key path d name spelled) new (sym n.1) (omega arith) (λ _. omega (arith, n.0, n.1)) (λ low. low)
       (target_at-tested zones (at_key path member_names.Target) s.tests target t target_read))))))))))
 

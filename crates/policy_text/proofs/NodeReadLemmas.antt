@@ -11,7 +11,7 @@ use Rattle.policy_text.specs.declared.faults.TextFault.TheVariants as faults
 use Rattle.policy_text.proofs.EachLemmas.{Fails-bind}
 
 module _ (zones : List Zone) (path : List PathPart) (seen : Seen) (d : Data) where
-  pub node_at-zero : (levels : ℕ) → levels ≡ 0 → node_at zones levels path seen d ≡ Err faults.TooDeep
+  pub node_at-zero : (levels : ℕ) → levels ≡ 0 → node_at zones levels path seen d ≡ Err (faults.TooDeep path)
   unfolding node_at
   node_at-zero levels e = ap (λ n. node_at zones n path seen d) e
 

@@ -103,12 +103,12 @@ module _ (zones : List Zone) (levels : ℕ) where
   abbrev pub own_contents : List ℕ → ℕ → ℕ → ℕ → List Match → List (List (List Match)) → Contents
   own_contents name nodes rules tests found target = record { names = name ∷ []; nodes = nodes; rules = rules; tests = tests; depth = 0; found = found; targets = target ∷ [] }
 
-  pub own_sound : (s t : Seen) (name : List ℕ) (nodes rules size : ℕ) (found : List Match) (target : List (List (List Match))) →
-      IsTrue (spelling.is_name name) → fresh name s.names ≡ Ok t.names → t.nodes ≡ s.nodes + nodes → t.rules ≡ s.rules + rules →
+  pub own_sound : (s t : Seen) (path : List PathPart) (name : List ℕ) (nodes rules size : ℕ) (found : List Match) (target : List (List (List Match))) →
+      IsTrue (spelling.is_name name) → fresh path name s.names ≡ Ok t.names → t.nodes ≡ s.nodes + nodes → t.rules ≡ s.rules + rules →
       (s.nodes ≤ 512 → t.nodes ≤ 512) → (s.rules ≤ 512 → t.rules ≤ 512) → IsTested zones s.tests size found (is_target target) t.tests →
       IsSound zones levels s (own_contents name nodes rules size found target) t
-  own_sound s t name nodes rules size found target spelled new nodes_more rules_more nodes_within rules_within tested =
-      let f = fresh-read name s.names t.names new in record {
+  own_sound s t path name nodes rules size found target spelled new nodes_more rules_more nodes_within rules_within tested =
+      let f = fresh-read path name s.names t.names new in record {
         names = sym f.1;
         nodes = nodes_more;
         rules = rules_more;

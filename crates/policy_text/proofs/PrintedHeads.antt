@@ -72,8 +72,8 @@ module _ (zones : List Zone) (path : List PathPart) (seen : Seen) (head : Head) 
         name_read head.name h.spelled,
         algorithm_read head.combine,
         set_target path combine head.name children (target_items head.target),
-        fresh_read head.name seen.names h.fresh,
-        within_room 512 seen.nodes h.nodes,
+        fresh_read (at_key path member_names.Set) head.name seen.names h.fresh,
+        within_room path 512 seen.nodes h.nodes,
         target_read zones (at_key path member_names.Target) seen.tests head.target h.target h.matches h.tests,
       )
       refl
@@ -88,8 +88,8 @@ module _ (zones : List Zone) (path : List PathPart) (seen : Seen) (head : Head) 
         name_read head.name h.spelled,
         algorithm_read head.combine,
         policy_target path combine head.name children (target_items head.target),
-        fresh_read head.name seen.names h.fresh,
-        within_room 512 seen.nodes h.nodes,
+        fresh_read (at_key path member_names.Policy) head.name seen.names h.fresh,
+        within_room path 512 seen.nodes h.nodes,
         target_read zones (at_key path member_names.Target) seen.tests head.target h.target h.matches h.tests,
       )
       refl

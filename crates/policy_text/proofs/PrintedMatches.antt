@@ -80,7 +80,7 @@ module _ (zones : List Zone) where
   match_read path tests m h room =
       let parts = and_parts (is_zone_known zones m) (is_match_spelled m) h in
       let lt : tests < 4096 = omega arith in
-      rw (single_match path m, match_in_read path m parts.1, known_read zones m parts.0, counted_room tests lt) refl
+      rw (single_match path m, match_in_read path m parts.1, known_read zones path m parts.0, counted_room path tests lt) refl
 
   -- the match of a term, if it has one, can be read
   abbrev pub is_term_readable : Term → Bool
@@ -93,13 +93,13 @@ module _ (zones : List Zone) where
       rw (no_own m, match_in_read path m parts.1) refl
   term_in_read path terms.Own h = refl
 
-  known_term_read : (term : Term) → IsTrue (is_term_readable term) → known_term zones term ≡ Ok tt
-  known_term_read (terms.Match m) h = known_read zones m (and_parts (is_zone_known zones m) (is_match_spelled m) (and_parts (is_readable zones m) true h).0).0
-  known_term_read terms.Own h = refl
+  known_term_read : (path : List PathPart) (term : Term) → IsTrue (is_term_readable term) → known_term zones path term ≡ Ok tt
+  known_term_read path (terms.Match m) h = known_read zones path m (and_parts (is_zone_known zones m) (is_match_spelled m) (and_parts (is_readable zones m) true h).0).0
+  known_term_read path terms.Own h = refl
 
   term_of_read : (path : List PathPart) (tests : ℕ) (term : Term) → IsTrue (is_term_readable term) → tests < 4096 → term_of zones path tests (term_data term) ≡ Ok (term, tests + 1)
   unfolding term_of
-  term_of_read path tests term h room = rw (term_in_read path term h, known_term_read term h, counted_room tests room) refl
+  term_of_read path tests term h room = rw (term_in_read path term h, known_term_read path term h, counted_room path tests room) refl
 
   -- ---- atoms
 
@@ -116,4 +116,4 @@ module _ (zones : List Zone) where
       let lt : tests < 4096 = omega arith in
       let more : tests + 1 < 4096 = omega arith in
       let e : tests + 1 + 1 ≡ tests + 2 = omega arith in
-      rw (counted_room tests lt, single_term (at_key path member_names.Not) term, term_of_read (at_key path member_names.Not) (tests + 1) term h more) (ap (λ n. Ok (atoms.Not term, n)) e)
+      rw (counted_room path tests lt, single_term (at_key path member_names.Not) term, term_of_read (at_key path member_names.Not) (tests + 1) term h more) (ap (λ n. Ok (atoms.Not term, n)) e)

@@ -76,8 +76,8 @@ module _ (zones : List Zone) where
         effect_read rule.effect,
         target_found path (effect_text rule.effect) rule.name target when,
         when_found path (effect_text rule.effect) rule.name target when,
-        fresh_read rule.name seen.names h.fresh,
-        within_room 512 seen.rules h.rules,
+        fresh_read (at_key path member_names.Rule) rule.name seen.names h.fresh,
+        within_room path 512 seen.rules h.rules,
         target_read zones (at_key path member_names.Target) seen.tests rule.target h.target parts.0 room,
         when_read zones (at_key path member_names.When) (seen.tests + size) rule.when parts.1 more,
       )

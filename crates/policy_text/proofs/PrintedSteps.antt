@@ -12,6 +12,7 @@ use Rattle.features.specs.Equality.{same_name}
 use Rattle.policy_documents.specs.Documents.{are_distinct, is_zone_known}
 use Rattle.policy_text.specs.Reading.{counted, within, fresh, known_in, algorithm_named, effect_named, action_named, Seen}
 use Rattle.policy_text.specs.Printed.{algorithm_text, effect_text, action_text}
+use Rattle.policy_text.specs.declared.paths.PathPart.{PathPart}
 use Rattle.policy_documents.specs.declared.zones.Zone.{Zone}
 use Rattle.policy_documents.specs.declared.algorithms.Algorithm.{Algorithm}
 use Rattle.policy_documents.specs.declared.algorithms.Algorithm.TheVariants.{DenyOverrides, PermitOverrides, DenyUnlessPermit, PermitUnlessDeny, FirstApplicable}
@@ -44,24 +45,24 @@ action_read actions.Delete = refl
 
 -- ---- counts
 
-pub counted_room : (tests : ℕ) → tests < 4096 → counted tests ≡ Ok (tests + 1)
-counted_room tests h = rw (lt-ltb tests 4096 h) refl
+pub counted_room : (path : List PathPart) (tests : ℕ) → tests < 4096 → counted path tests ≡ Ok (tests + 1)
+counted_room path tests h = rw (lt-ltb tests 4096 h) refl
 
-pub within_room : (limit count : ℕ) → count < limit → within limit count ≡ Ok (count + 1)
-within_room limit count h = rw (lt-ltb count limit h) refl
+pub within_room : (path : List PathPart) (limit count : ℕ) → count < limit → within path limit count ≡ Ok (count + 1)
+within_room path limit count h = rw (lt-ltb count limit h) refl
 
 -- ---- names and zones that were seen before
 
-pub fresh_read : (name : List ℕ) (names : List (List ℕ)) → list_any (same_name name) names ≡ false → fresh name names ≡ Ok (names ++ name ∷ [])
-fresh_read name names h = rw h refl
+pub fresh_read : (path : List PathPart) (name : List ℕ) (names : List (List ℕ)) → list_any (same_name name) names ≡ false → fresh path name names ≡ Ok (names ++ name ∷ [])
+fresh_read path name names h = rw h refl
 
-pub known_read : (zones : List Zone) (m : Match) → IsTrue (is_zone_known zones m) → known_in zones m ≡ Ok tt
-known_read zones (matches.Role name) h = refl
-known_read zones (matches.Office name) h = refl
-known_read zones (matches.Class name) h = refl
-known_read zones (matches.Owner name) h = refl
-known_read zones (matches.Zone name) h = rw h refl
-known_read zones (matches.Action action) h = refl
+pub known_read : (zones : List Zone) (path : List PathPart) (m : Match) → IsTrue (is_zone_known zones m) → known_in zones path m ≡ Ok tt
+known_read zones path (matches.Role name) h = refl
+known_read zones path (matches.Office name) h = refl
+known_read zones path (matches.Class name) h = refl
+known_read zones path (matches.Owner name) h = refl
+known_read zones path (matches.Zone name) h = rw h refl
+known_read zones path (matches.Action action) h = refl
 
 same_name-laws : IsEquivalence same_name
 same_name-laws = search (comparing, rules)

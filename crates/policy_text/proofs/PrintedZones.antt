@@ -21,17 +21,17 @@ list_any-names : (name : List ℕ) (zones : List Zone) → list_any (λ z. same_
 list_any-names name [] = refl
 list_any-names name (z ∷ zs) = rw (list_any-names name zs) refl
 
-with_zone_read : (z : Zone) (zones : List Zone) → list_any (same_name z.name) (names_of_zones zones) ≡ false → length zones < 64 → with_zone z.name z.shape zones ≡ Ok (zones ++ z ∷ [])
+with_zone_read : (path : List PathPart) (z : Zone) (zones : List Zone) → list_any (same_name z.name) (names_of_zones zones) ≡ false → length zones < 64 → with_zone path z.name z.shape zones ≡ Ok (zones ++ z ∷ [])
 unfolding with_zone
-with_zone_read z zones absent room = rw (list_any-names z.name zones, absent, within_room 64 (length zones) room) refl
+with_zone_read path z zones absent room = rw (list_any-names z.name zones, absent, within_room path 64 (length zones) room) refl
 
-shape_read : (z : Zone) → IsZone z → shape_in z.name (printed z.shape) ≡ Ok z.shape
-shape_read z h = rw (printed_is_read z.shape h.shape) refl
+shape_read : (path : List PathPart) (z : Zone) → IsZone z → shape_in path z.name (printed z.shape) ≡ Ok z.shape
+shape_read path z h = rw (printed_is_read z.shape h.shape) refl
 
 zone_read : (path : List PathPart) (z : Zone) (zones : List Zone) → IsZone z → list_any (same_name z.name) (names_of_zones zones) ≡ false → length zones < 64 →
     zone_at path zones (zone_data z) ≡ Ok (zones ++ z ∷ [])
 unfolding zone_at
-zone_read path z zones h absent room = rw (name_read z.name h.name, shape_read z h) (with_zone_read z zones absent room)
+zone_read path z zones h absent room = rw (name_read z.name h.name, shape_read path z h) (with_zone_read path z zones absent room)
 
 -- zones are read after others
 pub zones_read : (index : ℕ) (before zones : List Zone) → AllByRecursion IsZone zones → IsTrue (are_distinct (names_of_zones (before ++ zones))) → length (before ++ zones) ≤ 64 →

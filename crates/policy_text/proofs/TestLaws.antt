@@ -33,8 +33,8 @@ abbrev pub sizes_of : {X : Type 0} → (X → ℕ) → List X → ℕ
 sizes_of size [] = 0
 sizes_of size (x ∷ xs) = size x + sizes_of size xs
 
-pub counted-read : (before after : ℕ) → counted before ≡ Ok after → (after ≡ before + 1) × (after ≤ 4096)
-counted-read before after told = let w = within-read 4096 before after told in (sym w.1, omega (arith, w.0, w.1))
+pub counted-read : (path : List PathPart) (before after : ℕ) → counted path before ≡ Ok after → (after ≡ before + 1) × (after ≤ 4096)
+counted-read path before after told = let w = within-read path 4096 before after told in (sym w.1, omega (arith, w.0, w.1))
 
 module _ (path : List PathPart) (d : Data) where
   named : (key : MemberName) (make : List ℕ → Match) (m : Match) → ((name : List ℕ) → IsTrue (spelling.is_name name) → IsTrue (is_match_spelled (make name))) →
@@ -82,21 +82,21 @@ module _ (zones : List Zone) where
   known_if : (b : Bool) (u : Unit {0}) (e : TextFault) → (if b then Ok tt else Err e) ≡ Ok u → b ≡ true
   known_if b u e told = (taken b tt u e told).0
 
-  pub known_in-known : (m : Match) (u : Unit {0}) → known_in zones m ≡ Ok u → IsTrue (is_zone_known zones m)
-  known_in-known (matches.Zone name) u told = known_if (list_any (λ z. same_name name z.name) zones) u _ told
-  known_in-known (matches.Role name) u told = refl
-  known_in-known (matches.Office name) u told = refl
-  known_in-known (matches.Class name) u told = refl
-  known_in-known (matches.Owner name) u told = refl
-  known_in-known (matches.Action action) u told = refl
+  pub known_in-known : (path : List PathPart) (m : Match) (u : Unit {0}) → known_in zones path m ≡ Ok u → IsTrue (is_zone_known zones m)
+  known_in-known path (matches.Zone name) u told = known_if (list_any (λ z. same_name name z.name) zones) u _ told
+  known_in-known path (matches.Role name) u told = refl
+  known_in-known path (matches.Office name) u told = refl
+  known_in-known path (matches.Class name) u told = refl
+  known_in-known path (matches.Owner name) u told = refl
+  known_in-known path (matches.Action action) u told = refl
 
   -- one match
-  tested : (a b : ℕ) (m : Match) → IsTrue (is_zone_known zones m) → IsTrue (is_match_spelled m) → counted a ≡ Ok b → IsTested zones a 1 (m ∷ []) true b
-  tested a b m known spelled told = let c = counted-read a b told in
+  tested : (path : List PathPart) (a b : ℕ) (m : Match) → IsTrue (is_zone_known zones m) → IsTrue (is_match_spelled m) → counted path a ≡ Ok b → IsTested zones a 1 (m ∷ []) true b
+  tested path a b m known spelled told = let c = counted-read path a b told in
       record { count = c.0; within = λ _. c.1; known = and_from _ true known refl; spelled = and_from _ true spelled refl; filled = refl }
 
   pub match_at-tested : (path : List PathPart) (a : ℕ) (d : Data) (r : Match × ℕ) → match_at zones path a d ≡ Ok r → IsTested zones a 1 (r.0 ∷ []) true r.1
   unfolding match_at
   match_at-tested path a d r told = bound _ _ r told (λ _ _ found. bound _ _ r found (λ m read known. bound _ _ r known (λ u there counting. bound _ _ r counting (λ n counted end.
       subst (λ q. IsTested zones a 1 (q.0 ∷ []) true q.1) (same_value (m, n) r end)
-      (tested a n m (known_in-known m u there) (match_in-spelled path d m read) counted)))))
+      (tested path a n m (known_in-known path m u there) (match_in-spelled path d m read) counted)))))

@@ -12,7 +12,7 @@ use Rattle.wkt.proofs.CanonicalShapes.{shape_canonical}
 use Rattle.serde_json.specs.Data.{Data, Items, no_items, item}
 use Rattle.policy_documents.specs.Documents.{IsZone, are_distinct}
 use Rattle.features.specs.Equality.{same_name}
-use Rattle.policy_text.specs.Reading.{◌>>=◌, at_item, object_in, zone_keys, name_in, text_in, shape_in, unseen, within, with_zone, zone_at, zones_at}
+use Rattle.policy_text.specs.Reading.{◌>>=◌, at_item, at_key, object_in, zone_keys, name_in, text_in, shape_in, unseen, within, with_zone, zone_at, zones_at}
 use Rattle.policy_documents.specs.declared.zones.Zone.{Zone}
 use Rattle.policy_text.specs.declared.paths.MemberName.TheVariants as member_names
 use Rattle.policy_text.specs.declared.paths.PathPart.{PathPart}
@@ -41,26 +41,26 @@ one_more zones z h new room sound = record {
 }
 
 -- a shape that was read for a zone is the shape of its text
-shape_in-shape_of : (name text : List ℕ) (corners : List Point) → shape_in name text ≡ Ok corners → shape_of text ≡ Ok corners
-shape_in-shape_of name text corners told = by_shape (shape_of text) refl
+shape_in-shape_of : (path : List PathPart) (name text : List ℕ) (corners : List Point) → shape_in path name text ≡ Ok corners → shape_of text ≡ Ok corners
+shape_in-shape_of path name text corners told = by_shape (shape_of text) refl
   where
     by_shape : (r : Result (List Point) WktFault) → shape_of text ≡ r → shape_of text ≡ Ok corners
-    by_shape (Ok found) e = let k : shape_in name text ≡ Ok found = rw e refl in cc
+    by_shape (Ok found) e = let k : shape_in path name text ≡ Ok found = rw e refl in cc
     by_shape (Err fault) e = absurd (let k = rw e at told in cc)
 
-with_zone-sound : (name : List ℕ) (shape : List Point) (zones more : List Zone) → AreZones zones → IsTrue (spelling.is_name name) → IsCanonical shape →
-    with_zone name shape zones ≡ Ok more → AreZones more
+with_zone-sound : (path : List PathPart) (name : List ℕ) (shape : List Point) (zones more : List Zone) → AreZones zones → IsTrue (spelling.is_name name) → IsCanonical shape →
+    with_zone path name shape zones ≡ Ok more → AreZones more
 unfolding with_zone
-with_zone-sound name shape zones more h spelled whole told = bound (unseen name zones) _ more told (λ u new counted. bound (within 64 (length zones)) _ more counted (λ n room end.
+with_zone-sound path name shape zones more h spelled whole told = bound (unseen (at_key path member_names.Zone) name zones) _ more told (λ u new counted. bound (within path 64 (length zones)) _ more counted (λ n room end.
     subst AreZones (same_value (zones ++ record { name = name; shape = shape } ∷ []) more end)
-    (one_more zones (record { name = name; shape = shape }) h (passed (list_any (λ z. same_name name z.name) zones) tt u _ new).0 (within-read 64 (length zones) n room).0
+    (one_more zones (record { name = name; shape = shape }) h (passed (list_any (λ z. same_name name z.name) zones) tt u _ new).0 (within-read path 64 (length zones) n room).0
     (record { name = spelled; shape = whole }))))
 
 zone_at-sound : (path : List PathPart) (zones more : List Zone) (d : Data) → AreZones zones → zone_at path zones d ≡ Ok more → AreZones more
 unfolding zone_at
 zone_at-sound path zones more d h told = bound (object_in zone_keys path d) _ more told (λ _ _ a. bound (name_in member_names.Zone path d) _ more a (λ name named b.
-    bound (text_in member_names.Shape path d) _ more b (λ text _ c. bound (shape_in name text) _ more c (λ shape shaped end.
-    with_zone-sound name shape zones more h (name_in-spelled member_names.Zone path d name named) (shape_canonical text shape (shape_in-shape_of name text shape shaped)) end))))
+    bound (text_in member_names.Shape path d) _ more b (λ text _ c. bound (shape_in path name text) _ more c (λ shape shaped end.
+    with_zone-sound path name shape zones more h (name_in-spelled member_names.Zone path d name named) (shape_canonical text shape (shape_in-shape_of path name text shape shaped)) end))))
 
 zones_at-none : (i : ℕ) (zones : List Zone) → zones_at i zones no_items ≡ Ok zones
 unfolding zones_at

@@ -3,6 +3,7 @@ pub mod Paths
 pub mod Places
 pub mod Pointers
 pub mod FaultCodes
+pub mod FaultPaths
 pub mod Reading
 pub mod SeenViews
 pub mod Printed

@@ -46,11 +46,11 @@ Fails (faults.Memory refused) reading = Unit {0}
 Fails faults.NotJson reading = reading ≡ Err faults.NotJson
 Fails (faults.Form path) reading = reading ≡ Err (faults.Form path)
 Fails (faults.UnknownKey path) reading = reading ≡ Err (faults.UnknownKey path)
-Fails (faults.NameTwice name) reading = reading ≡ Err (faults.NameTwice name)
-Fails (faults.NoZone name) reading = reading ≡ Err (faults.NoZone name)
-Fails (faults.BadZone name fault) reading = reading ≡ Err (faults.BadZone name fault)
-Fails faults.TooDeep reading = reading ≡ Err faults.TooDeep
-Fails faults.TooMany reading = reading ≡ Err faults.TooMany
+Fails (faults.NameTwice path name) reading = reading ≡ Err (faults.NameTwice path name)
+Fails (faults.NoZone path name) reading = reading ≡ Err (faults.NoZone path name)
+Fails (faults.BadZone path name fault) reading = reading ≡ Err (faults.BadZone path name fault)
+Fails (faults.TooDeep path) reading = reading ≡ Err (faults.TooDeep path)
+Fails (faults.TooMany path) reading = reading ≡ Err (faults.TooMany path)
 
 -- the function's result, seen through `view`, is that of the reading, unless it is out of memory
 abbrev pub Gives : {X Y : Type 0} → (X → Y) → Result X TextFault → Result Y TextFault → Type 0
@@ -179,23 +179,24 @@ match_in path d =
     (name_in member_names.Zone path d >>= λ name. Ok (matches.Zone name))
     else (action_in path d >>= λ action. Ok (matches.Action action))
 
--- the zone of a match exists
-abbrev pub known_in : List Zone → Match → Result (Unit {0}) TextFault
-known_in zones (matches.Zone name) =
-    if list_any (λ z. same_name name z.name) zones then Ok tt else Err (faults.NoZone name)
-known_in zones (matches.Role name) = Ok tt
-known_in zones (matches.Office name) = Ok tt
-known_in zones (matches.Class name) = Ok tt
-known_in zones (matches.Owner name) = Ok tt
-known_in zones (matches.Action action) = Ok tt
+-- the zone of a match exists; otherwise its name is at fault
+abbrev pub known_in : List Zone → List PathPart → Match → Result (Unit {0}) TextFault
+known_in zones path (matches.Zone name) =
+    if list_any (λ z. same_name name z.name) zones then Ok tt
+    else Err (faults.NoZone (at_key path member_names.Zone) name)
+known_in zones path (matches.Role name) = Ok tt
+known_in zones path (matches.Office name) = Ok tt
+known_in zones path (matches.Class name) = Ok tt
+known_in zones path (matches.Owner name) = Ok tt
+known_in zones path (matches.Action action) = Ok tt
 
--- `count + 1`, unless `count` has reached the limit
-abbrev pub within : ℕ → ℕ → Result ℕ TextFault
-within limit count = if nat_lt count limit then Ok (count + 1) else Err faults.TooMany
+-- `count + 1`, unless `count` has reached the limit: then the value at the path is one too many
+abbrev pub within : List PathPart → ℕ → ℕ → Result ℕ TextFault
+within path limit count = if nat_lt count limit then Ok (count + 1) else Err (faults.TooMany path)
 
 -- one more match or atom
-abbrev pub counted : ℕ → Result ℕ TextFault
-counted = within TEST_LIMIT
+abbrev pub counted : List PathPart → ℕ → Result ℕ TextFault
+counted path = within path TEST_LIMIT
 
 abbrev pub match_keys : List MemberName
 match_keys = member_names.Role ∷ member_names.Office ∷ member_names.Class ∷ member_names.Owner
@@ -204,8 +205,8 @@ match_keys = member_names.Role ∷ member_names.Office ∷ member_names.Class �
 -- a match, with the count of matches and atoms after it
 unfoldable pub match_at : List Zone → List PathPart → ℕ → Data → Result (Match × ℕ) TextFault
 match_at zones path tests d =
-    single_in match_keys path d >>= λ _. match_in path d >>= λ m. known_in zones m >>= λ _. counted
-    tests >>= λ n. Ok (m, n)
+    single_in match_keys path d >>= λ _. match_in path d >>= λ m. known_in zones path m >>= λ _.
+    counted path tests >>= λ n. Ok (m, n)
 
 abbrev pub is_true : Option Bool → Bool
 is_true None = false
@@ -224,9 +225,9 @@ unfoldable pub term_in : List PathPart → Data → Result Term TextFault
 term_in path d = if has_key member_names.Own d then own_in path d
     else (match_in path d >>= λ m. Ok (terms.Match m))
 
-abbrev pub known_term : List Zone → Term → Result (Unit {0}) TextFault
-known_term zones (terms.Match m) = known_in zones m
-known_term zones terms.Own = Ok tt
+abbrev pub known_term : List Zone → List PathPart → Term → Result (Unit {0}) TextFault
+known_term zones path (terms.Match m) = known_in zones path m
+known_term zones path terms.Own = Ok tt
 
 abbrev pub term_keys : List MemberName
 term_keys = member_names.Role ∷ member_names.Office ∷ member_names.Class ∷ member_names.Owner
@@ -238,8 +239,8 @@ atom_keys = member_names.Role ∷ member_names.Office ∷ member_names.Class ∷
 
 -- the term of an object whose only key is a term's
 unfoldable pub term_of : List Zone → List PathPart → ℕ → Data → Result (Term × ℕ) TextFault
-term_of zones path tests d = term_in path d >>= λ term. known_term zones term >>= λ _. counted tests
-    >>= λ n. Ok (term, n)
+term_of zones path tests d = term_in path d >>= λ term. known_term zones path term >>= λ _. counted
+    path tests >>= λ n. Ok (term, n)
 
 -- the term in a `not`
 unfoldable pub term_at : List Zone → List PathPart → ℕ → Data → Result (Term × ℕ) TextFault
@@ -250,7 +251,7 @@ unfoldable pub atom_of : List Zone → List PathPart → ℕ → Data → Option
     → Result (Atom × ℕ) TextFault
 atom_of zones path tests d None = term_of zones path tests d >>= λ r. Ok (atoms.Is r.0, r.1)
 atom_of zones path tests d (Some inner) =
-    counted tests >>= λ n. term_at zones (at_key path member_names.Not) n inner >>= λ r. Ok
+    counted path tests >>= λ n. term_at zones (at_key path member_names.Not) n inner >>= λ r. Ok
     (atoms.Not r.0, r.1)
 
 -- an atom, with the count of matches and atoms after it
@@ -298,9 +299,9 @@ pub record Seen : Type 0 where
   pub rules : ℕ
   pub tests : ℕ
 
--- one more name, which was not seen before
-abbrev pub fresh : List ℕ → List (List ℕ) → Result (List (List ℕ)) TextFault
-fresh name names = if list_any (same_name name) names then Err (faults.NameTwice name)
+-- one more name, which was not seen before; the path is its own
+abbrev pub fresh : List PathPart → List ℕ → List (List ℕ) → Result (List (List ℕ)) TextFault
+fresh path name names = if list_any (same_name name) names then Err (faults.NameTwice path name)
     else Ok (names ++ name ∷ [])
 
 abbrev pub rule_keys : List MemberName
@@ -313,7 +314,8 @@ rule_at zones path seen d =
     d >>= λ effect.
     optional_array_in member_names.Target path d >>= λ target. optional_array_in member_names.When
     path d >>= λ when.
-    fresh name seen.names >>= λ names. within RULE_LIMIT seen.rules >>= λ rules.
+    fresh (at_key path member_names.Rule) name seen.names >>= λ names. within path RULE_LIMIT
+    seen.rules >>= λ rules.
     target_at zones (at_key path member_names.Target) seen.tests target >>= λ t. when_at zones
     (at_key path member_names.When) t.1 when >>= λ w.
     Ok (
@@ -341,7 +343,8 @@ head_at zones listed name_key children path seen d =
     object_in listed path d >>= λ _. name_in name_key path d >>= λ name. algorithm_in path d >>=
     λ combine.
     optional_array_in member_names.Target path d >>= λ target. array_in children path d >>= λ items.
-    fresh name seen.names >>= λ names. within NODE_LIMIT seen.nodes >>= λ nodes.
+    fresh (at_key path name_key) name seen.names >>= λ names. within path NODE_LIMIT seen.nodes >>=
+    λ nodes.
     target_at zones (at_key path member_names.Target) seen.tests target >>= λ t.
     Ok (
       record {
@@ -378,7 +381,7 @@ set_at read zones path seen d =
 -- a set or a policy with at most this many levels; an object with the key `set` is a set
 unfoldable pub node_at : List Zone → ℕ → List PathPart → Seen → Data
     → Result (NodeData × Seen) TextFault
-node_at zones zero path seen d = Err faults.TooDeep
+node_at zones zero path seen d = Err (faults.TooDeep path)
 node_at zones (suc levels) path seen d =
     if has_key member_names.Set d then set_at (node_at zones levels) zones path seen d
     else policy_at zones path seen d
@@ -390,30 +393,32 @@ zone_keys = member_names.Zone ∷ member_names.Shape ∷ []
 abbrev pub text_in : MemberName → List PathPart → Data → Result (List ℕ) TextFault
 text_in key path d = ok_or (option_and_then as_str (value_of key d)) (faults.Form (at_key path key))
 
--- the shape of a zone
-abbrev pub shape_in : List ℕ → List ℕ → Result (List Point) TextFault
-shape_in name text = zone_fault (shape_of text)
+-- the shape of the zone at the path
+abbrev pub shape_in : List PathPart → List ℕ → List ℕ → Result (List Point) TextFault
+shape_in path name text = zone_fault (shape_of text)
   where
     zone_fault : Result (List Point) WktFault → Result (List Point) TextFault
     zone_fault (Ok corners) = Ok corners
-    zone_fault (Err fault) = Err (faults.BadZone name fault)
+    zone_fault (Err fault) = Err (faults.BadZone (at_key path member_names.Shape) name fault)
 
--- no zone has the name yet
-abbrev pub unseen : List ℕ → List Zone → Result (Unit {0}) TextFault
-unseen name zones = if list_any (λ z. same_name name z.name) zones then Err (faults.NameTwice name)
-    else Ok tt
+-- no zone has the name yet; the path is the name's
+abbrev pub unseen : List PathPart → List ℕ → List Zone → Result (Unit {0}) TextFault
+unseen path name zones =
+    if list_any (λ z. same_name name z.name) zones then Err (faults.NameTwice path name) else Ok tt
 
--- the zones with one more, whose name is new
-unfoldable pub with_zone : List ℕ → List Point → List Zone → Result (List Zone) TextFault
-with_zone name shape zones = unseen name zones >>= λ _. within ZONE_LIMIT (length zones) >>= λ _. Ok
-    (zones ++ record { name = name; shape = shape } ∷ [])
+-- the zones with the one at the path, whose name is new
+unfoldable pub with_zone : List PathPart → List ℕ → List Point → List Zone
+    → Result (List Zone) TextFault
+with_zone path name shape zones =
+    unseen (at_key path member_names.Zone) name zones >>= λ _. within path ZONE_LIMIT (length zones)
+    >>= λ _. Ok (zones ++ record { name = name; shape = shape } ∷ [])
 
 -- a zone, added to those before it
 unfoldable pub zone_at : List PathPart → List Zone → Data → Result (List Zone) TextFault
 zone_at path zones d =
     object_in zone_keys path d >>= λ _. name_in member_names.Zone path d >>= λ name. text_in
     member_names.Shape path d >>= λ text.
-    shape_in name text >>= λ shape. with_zone name shape zones
+    shape_in path name text >>= λ shape. with_zone path name shape zones
 
 unfoldable pub zones_at : ℕ → List Zone → Items → Result (List Zone) TextFault
 zones_at index zones no_items = Ok zones

@@ -23,32 +23,40 @@ const ZONE_KEYS: [MemberName; 2] = [MemberName::Zone, MemberName::Shape];
 
 const DOCUMENT_KEYS: [MemberName; 2] = [MemberName::Zones, MemberName::Root];
 
-/// Reads the shape of the zone with this name; `BadZone` if the text is no shape.
-fn shape_in(name: Name, text: &str) -> Result<Shape, TextFault>
-    ensures { result ≡ shape_in name text.now }
+/// Reads the shape of the zone at `path` with this name; `BadZone` if the text is no shape.
+fn shape_in(name: Name, text: &str, path: Path) -> Result<Shape, TextFault>
+    requires { length path < PART_LIMIT }
+    ensures { result ≡ shape_in path name text.now }
 {
     match read_shape(text.as_bytes()) {
         Ok(shape) => Ok(shape),
-        Err(fault) => Err(TextFault::BadZone(name, fault)),
+        Err(fault) => {
+            let path = path.with(PathPart::Member(MemberName::Shape));
+            Err(TextFault::BadZone(path, name, fault))
+        }
     }
 }
 
-/// Adds a zone. `NameTwice` if a zone has the name; otherwise `TooMany` at `ZONE_LIMIT`.
+/// Adds the zone at `path`. `NameTwice` if a zone has its name; otherwise `TooMany` at
+/// `ZONE_LIMIT`.
 #[tactic(auto, unfolding(crate::specs::Reading::with_zone))]
 fn put_zone<A: Allocator + Copy>(
     name: Name,
     shape: Shape,
+    path: Path,
     zones: &mut Zones<A>,
 ) -> Result<(), TextFault>
+    requires { length path < PART_LIMIT }
     ensures value { Gives (λ _. map zone_of zones.new.entries) result
-        (with_zone name shape (map zone_of zones.old.entries)) }
-    ensures told { Tells result (with_zone name shape (map zone_of zones.old.entries)) }
+        (with_zone path name shape (map zone_of zones.old.entries)) }
+    ensures told { Tells result (with_zone path name shape (map zone_of zones.old.entries)) }
 {
     if has_zone(zones, name) {
-        return Err(TextFault::NameTwice(name));
+        let path = path.with(PathPart::Member(MemberName::Zone));
+        return Err(TextFault::NameTwice(path, name));
     }
     if zones.len() >= ZONE_LIMIT {
-        return Err(TextFault::TooMany);
+        return Err(TextFault::TooMany(path));
     }
     put(zones, ZoneName { name }, shape)?;
     Ok(())
@@ -69,8 +77,8 @@ fn zone_at<A: Allocator + Copy>(
     object_in(value, &ZONE_KEYS, path)?;
     let name = name_in(value, MemberName::Zone, path)?;
     let text = text_in(value, MemberName::Shape, path)?;
-    let shape = shape_in(name, text)?;
-    put_zone(name, shape, zones)
+    let shape = shape_in(name, text, path)?;
+    put_zone(name, shape, path, zones)
 }
 
 /// Reads the zones of an array.

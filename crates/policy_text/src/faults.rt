@@ -17,22 +17,25 @@ pub enum TextFault {
     Form(Path),
     /// D3: an object has a key that is not listed for it.
     UnknownKey(Path),
-    /// D4: two sets, policies or rules, or two zones, have this name.
-    NameTwice(Name),
-    /// D5: no zone has this name.
-    NoZone(Name),
-    /// D6: the shape of this zone is invalid.
-    BadZone(Name, WktFault),
-    /// D7: sets and policies nest more than 8 deep.
-    TooDeep,
-    /// D8: too many zones, sets and policies, rules, or matches and atoms.
-    TooMany,
+    /// D4: two sets, policies or rules, or two zones, have this name; the path is that of the
+    /// second.
+    NameTwice(Path, Name),
+    /// D5: no zone has this name, which a match has at the path.
+    NoZone(Path, Name),
+    /// D6: the shape at the path, of the zone of this name, is invalid.
+    BadZone(Path, Name, WktFault),
+    /// D7: sets and policies nest more than 8 deep; the path is that of the ninth.
+    TooDeep(Path),
+    /// D8: too many zones, sets and policies, rules, or matches and atoms; the path is that of the
+    /// first that is too many.
+    TooMany(Path),
     /// D9: out of memory.
     Memory(NoMemory),
 }
 
 impl TextFault {
     ghost use Rattle.policy_text.specs.FaultCodes.{code_of};
+    ghost use Rattle.policy_text.specs.FaultPaths.{path_of};
 
     /// The fault's code, as users see it.
     pub fn code(&self) -> &'static str
@@ -42,12 +45,28 @@ impl TextFault {
             TextFault::NotJson => "D1",
             TextFault::Form(_) => "D2",
             TextFault::UnknownKey(_) => "D3",
-            TextFault::NameTwice(_) => "D4",
-            TextFault::NoZone(_) => "D5",
-            TextFault::BadZone(_, _) => "D6",
-            TextFault::TooDeep => "D7",
-            TextFault::TooMany => "D8",
+            TextFault::NameTwice(_, _) => "D4",
+            TextFault::NoZone(_, _) => "D5",
+            TextFault::BadZone(_, _, _) => "D6",
+            TextFault::TooDeep(_) => "D7",
+            TextFault::TooMany(_) => "D8",
             TextFault::Memory(_) => "D9",
+        }
+    }
+
+    /// Where in the document the fault is: the path of D2 to D8.
+    pub fn path(&self) -> Option<Path>
+        ensures { result ≡ path_of self.now }
+    {
+        match self {
+            TextFault::Form(path)
+            | TextFault::UnknownKey(path)
+            | TextFault::NameTwice(path, _)
+            | TextFault::NoZone(path, _)
+            | TextFault::BadZone(path, _, _)
+            | TextFault::TooDeep(path)
+            | TextFault::TooMany(path) => Some(*path),
+            TextFault::NotJson | TextFault::Memory(_) => None,
         }
     }
 }

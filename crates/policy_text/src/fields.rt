@@ -216,13 +216,13 @@ pub(crate) fn optional_array_in(
     }
 }
 
-/// `count + 1`, or `TooMany` if `count` has reached `limit`.
-pub(crate) fn within(limit: u32, count: u32) -> Result<u32, TextFault>
-    ensures { result ≡ within limit count }
+/// `count + 1`, or `TooMany` if `count` has reached `limit`: the value at `path` is one too many.
+pub(crate) fn within(limit: u32, count: u32, path: Path) -> Result<u32, TextFault>
+    ensures { result ≡ within path limit count }
 {
     if count < limit {
         Ok(count + 1)
     } else {
-        Err(TextFault::TooMany)
+        Err(TextFault::TooMany(path))
     }
 }

@@ -15,7 +15,7 @@ mod values;
 mod words;
 
 pub use faults::TextFault;
-pub use laws::{faults_compare_exactly, printed_is_read, read_is_document};
+pub use laws::{faults_compare_exactly, faults_lead_to_values, printed_is_read, read_is_document};
 pub use paths::{MemberName, Path, PathPart};
 pub use policy_documents::{
     Algorithm, AllOf, AnyOf, Atom, Conditions, Document, Effect, Items, Match, Node, Rule, Target,

@@ -6,13 +6,13 @@ ghost use Rattle.serde_json.specs.View.{view, items_view};
 ghost use Rattle.features.specs.Equality.{same_name};
 ghost use Rattle.policy_text.specs.SeenViews.{seen_view, head_view};
 ghost use Rattle.policy_documents.specs.Views.{zone_of, node_view};
-ghost use Rattle.policy_text.specs.Reading.{Gives, Tells, fresh, each_at, rule_at, head_at, policy_at, set_at, node_at};
+ghost use Rattle.policy_text.specs.Reading.{Gives, Tells, at_key, fresh, each_at, rule_at, head_at, policy_at, set_at, node_at};
 
 use crate::faults::TextFault;
 use crate::fields::{
     algorithm_in, array_in, effect_in, has_key, name_in, object_in, optional_array_in, within,
 };
-use crate::paths::{MemberName, Path, PathPart};
+use crate::paths::{MemberName, PART_LIMIT, Path, PathPart};
 use crate::targets::parts_at;
 use features::Name;
 use memory::GrowVec;
@@ -82,13 +82,22 @@ fn has_name(names: &[Name], name: Name) -> bool
     names.iter().any(|other| name == *other)
 }
 
-/// Appends a name; `NameTwice` if it is one of the names already.
-pub(crate) fn fresh<A: Allocator>(name: Name, names: &mut Vec<Name, A>) -> Result<(), TextFault>
-    ensures value { Gives (λ _. names.new.items) result (fresh name names.old.items) }
-    ensures told { Tells result (fresh name names.old.items) }
+/// Appends the name that the value at `path` has under a key; `NameTwice` if it is one of the names
+/// already.
+pub(crate) fn fresh<A: Allocator>(
+    name: Name,
+    key: MemberName,
+    path: Path,
+    names: &mut Vec<Name, A>,
+) -> Result<(), TextFault>
+    requires { length path < PART_LIMIT }
+    ensures value { Gives (λ _. names.new.items) result
+        (fresh (at_key path key) name names.old.items) }
+    ensures told { Tells result (fresh (at_key path key) name names.old.items) }
 {
     if has_name(names, name) {
-        return Err(TextFault::NameTwice(name));
+        let path = path.with(PathPart::Member(key));
+        return Err(TextFault::NameTwice(path, name));
     }
     names.try_push(name)?;
     Ok(())
@@ -112,8 +121,8 @@ fn rule_at<A: Allocator + Copy, B: Allocator>(
     let effect = effect_in(value, path)?;
     let target = optional_array_in(value, MemberName::Target, path)?;
     let when = optional_array_in(value, MemberName::When, path)?;
-    fresh(name, &mut seen.names)?;
-    seen.rules = within(RULE_LIMIT, seen.rules)?;
+    fresh(name, MemberName::Rule, path, &mut seen.names)?;
+    seen.rules = within(RULE_LIMIT, seen.rules, path)?;
     let (target, tests) = parts_at(
         alloc,
         zones,
@@ -178,8 +187,8 @@ fn head_at<'v, A: Allocator + Copy, B: Allocator>(
     let combine = algorithm_in(value, path)?;
     let target = optional_array_in(value, MemberName::Target, path)?;
     let items = array_in(value, form.children, path)?;
-    fresh(name, &mut seen.names)?;
-    seen.nodes = within(NODE_LIMIT, seen.nodes)?;
+    fresh(name, form.name, path, &mut seen.names)?;
+    seen.nodes = within(NODE_LIMIT, seen.nodes, path)?;
     let (target, tests) = parts_at(
         alloc,
         zones,
@@ -246,7 +255,7 @@ pub(crate) fn node_at<A: Allocator + Copy, B: Allocator>(
         (view value.now)) }
 {
     if levels == 0 {
-        return Err(TextFault::TooDeep);
+        return Err(TextFault::TooDeep(path));
     }
     let below = levels - 1;
     if has_key(value, MemberName::Set) {

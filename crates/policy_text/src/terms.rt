@@ -77,16 +77,17 @@ pub(crate) fn has_zone<A: Allocator>(zones: &Zones<A>, name: Name) -> bool
     zones.contains_key(&ZoneName { name })
 }
 
-/// Checks that the zone of a match exists (else `NoZone`).
-fn known_in<A: Allocator>(zones: &Zones<A>, test: &Match) -> Result<(), TextFault>
-    ensures { result ≡ known_in (map zone_of zones.now.entries) test.now }
+/// Checks that the zone of the match at `path` exists (else `NoZone`).
+fn known_in<A: Allocator>(zones: &Zones<A>, test: &Match, path: Path) -> Result<(), TextFault>
+    requires { length path < PART_LIMIT }
+    ensures { result ≡ known_in (map zone_of zones.now.entries) path test.now }
 {
     match test {
         Match::Zone(name) => {
             if has_zone(zones, *name) {
                 Ok(())
             } else {
-                Err(TextFault::NoZone(*name))
+                Err(TextFault::NoZone(path.with(PathPart::Member(MemberName::Zone)), *name))
             }
         }
         _ => Ok(()),
@@ -108,8 +109,8 @@ impl<A: Allocator + Copy> Part<A> for Match {
     ) -> Result<(Self, u32), TextFault> {
         single_in(value, &MATCH_KEYS, path)?;
         let test = match_in(value, path)?;
-        known_in(zones, &test)?;
-        let tests = within(TEST_LIMIT, tests)?;
+        known_in(zones, &test, path)?;
+        let tests = within(TEST_LIMIT, tests, path)?;
         Ok((test, tests))
     }
 }
@@ -129,12 +130,13 @@ fn term_in(value: &Value, path: Path) -> Result<Term, TextFault>
     }
 }
 
-/// Checks that the zone of a term exists (else `NoZone`).
-fn known_term<A: Allocator>(zones: &Zones<A>, term: &Term) -> Result<(), TextFault>
-    ensures { result ≡ known_term (map zone_of zones.now.entries) term.now }
+/// Checks that the zone of the term at `path` exists (else `NoZone`).
+fn known_term<A: Allocator>(zones: &Zones<A>, term: &Term, path: Path) -> Result<(), TextFault>
+    requires { length path < PART_LIMIT }
+    ensures { result ≡ known_term (map zone_of zones.now.entries) path term.now }
 {
     match term {
-        Term::Match(test) => known_in(zones, test),
+        Term::Match(test) => known_in(zones, test, path),
         Term::Own => Ok(()),
     }
 }
@@ -152,8 +154,8 @@ fn term_of<A: Allocator>(
     ensures { result ≡ term_of (map zone_of zones.now.entries) path tests (view value.now) }
 {
     let term = term_in(value, path)?;
-    known_term(zones, &term)?;
-    let tests = within(TEST_LIMIT, tests)?;
+    known_term(zones, &term, path)?;
+    let tests = within(TEST_LIMIT, tests, path)?;
     Ok((term, tests))
 }
 
@@ -190,7 +192,7 @@ impl<A: Allocator + Copy> Part<A> for Atom {
             let (term, tests) = term_of(zones, value, path, tests)?;
             return Ok((Atom::Is(term), tests));
         };
-        let tests = within(TEST_LIMIT, tests)?;
+        let tests = within(TEST_LIMIT, tests, path)?;
         let (term, tests) = term_at(
             zones,
             inner,

@@ -67,11 +67,11 @@ module _ {S : Type 0} (serves : Call → S → S → SaidData → Type 0) (stage
   governs_unread s unread.NotJson empty e = unread_so s unread.NotJson e
   governs_unread s (unread.Form path) empty e = unread_so s (unread.Form path) e
   governs_unread s (unread.UnknownKey path) empty e = unread_so s (unread.UnknownKey path) e
-  governs_unread s (unread.NameTwice name) empty e = unread_so s (unread.NameTwice name) e
-  governs_unread s (unread.NoZone name) empty e = unread_so s (unread.NoZone name) e
-  governs_unread s (unread.BadZone name fault) empty e = unread_so s (unread.BadZone name fault) e
-  governs_unread s unread.TooDeep empty e = unread_so s unread.TooDeep e
-  governs_unread s unread.TooMany empty e = unread_so s unread.TooMany e
+  governs_unread s (unread.NameTwice path name) empty e = unread_so s (unread.NameTwice path name) e
+  governs_unread s (unread.NoZone path name) empty e = unread_so s (unread.NoZone path name) e
+  governs_unread s (unread.BadZone path name fault) empty e = unread_so s (unread.BadZone path name fault) e
+  governs_unread s (unread.TooDeep path) empty e = unread_so s (unread.TooDeep path) e
+  governs_unread s (unread.TooMany path) empty e = unread_so s (unread.TooMany path) e
 
   -- a document that was read
   pub governs_read : (document : DocumentData) (old new : S) (said : SaidData) → document_of_bytes text ≡ Ok document → serves (Govern document) old new said → GovernsLine serves text (desk staged old) (desk staged new) said

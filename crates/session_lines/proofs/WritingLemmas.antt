@@ -65,11 +65,11 @@ pub policy_code_short : (fault : TextFault) → length (policy_code_of fault) �
 policy_code_short unread.NotJson = lit≤ tt
 policy_code_short (unread.Form path) = lit≤ tt
 policy_code_short (unread.UnknownKey path) = lit≤ tt
-policy_code_short (unread.NameTwice name) = lit≤ tt
-policy_code_short (unread.NoZone name) = lit≤ tt
-policy_code_short (unread.BadZone name fault) = lit≤ tt
-policy_code_short unread.TooDeep = lit≤ tt
-policy_code_short unread.TooMany = lit≤ tt
+policy_code_short (unread.NameTwice path name) = lit≤ tt
+policy_code_short (unread.NoZone path name) = lit≤ tt
+policy_code_short (unread.BadZone path name fault) = lit≤ tt
+policy_code_short (unread.TooDeep path) = lit≤ tt
+policy_code_short (unread.TooMany path) = lit≤ tt
 policy_code_short (unread.Memory refused) = lit≤ tt
 
 pub code_short : (fault : LineFault) → length (code_of fault) ≤ 3
