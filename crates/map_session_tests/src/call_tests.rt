@@ -39,7 +39,7 @@ const DOCUMENT: &str =
     "{\"root\":{\"combine\":\"first-applicable\",\"policy\":\"p\",\"rules\":[{\"effect\":\"deny\",\"rule\":\"none-deletes\",\"target\":[[[{\"action\":\"delete\"}]]]}]}}";
 
 /// Requests one after another.
-const ASKED: [Asked; 32] = [
+const ASKED: [Asked; 35] = [
     (
         "north",
         READ,
@@ -129,6 +129,33 @@ const ASKED: [Asked; 32] = [
         "{\"root\":{},\"x\":1}",
         Status::Unprocessable,
         "\"code\":\"D3\",\"place\":\"",
+    ),
+    (
+        "north",
+        PUT,
+        "/policy",
+        "",
+        r#"{"root":{"policy":"p","combine":"deny-overrides","rules":[{"rule":"p","effect":"deny"}]}}"#,
+        Status::Unprocessable,
+        "\"code\":\"D4\",\"place\":\"/root/rules/0/rule\"}",
+    ),
+    (
+        "north",
+        PUT,
+        "/policy",
+        "",
+        r#"{"root":{"policy":"p","combine":"deny-overrides","target":[[[{"zone":"z"}]]],"rules":[]}}"#,
+        Status::Unprocessable,
+        "\"code\":\"D5\",\"place\":\"/root/target/0/0/0/zone\"}",
+    ),
+    (
+        "north",
+        PUT,
+        "/policy",
+        "",
+        r#"{"zones":[{"zone":"z","shape":"POINT (1)"}],"root":1}"#,
+        Status::Unprocessable,
+        "\"code\":\"D6\",\"place\":\"/zones/0/shape\"}",
     ),
     (
         "north",
