@@ -411,12 +411,12 @@ fn lines_of_a_piece(rt: HostRuntime) -> Result<(), Fail> {
     let mut world = filled(&rt, rt.alloc());
     let mut solo = Solo::new(&mut world, rt.alloc());
     let mut pieces = Pieces::new(rt.alloc());
-    let taken = answered(&rt, rt.alloc(), &mut solo, &mut pieces, "", &ASKED[16]);
+    let taken = answered(&rt, rt.alloc(), &mut solo, &mut pieces, "", &ASKED[19]);
     let Some(address) = &taken.location else {
         panic!(rt; "no address");
     };
     assert!(rt; address.as_slice() == b"http://m/trail/1".as_slice());
-    let shown = answered(&rt, rt.alloc(), &mut solo, &mut pieces, "", &ASKED[21]);
+    let shown = answered(&rt, rt.alloc(), &mut solo, &mut pieces, "", &ASKED[24]);
     let text = text_of(&shown)?;
     assert!(rt; text.starts_with("{\"changes\":[{"), "{text}");
     assert!(rt; text.ends_with("}\n"), "{text}");
@@ -437,7 +437,7 @@ fn types_of_documents(rt: HostRuntime) {
         ("Application/JSON;charset=utf-8", Status::Success),
     ];
     for (media, status) in wanted {
-        let answer = answered(&rt, rt.alloc(), &mut solo, &mut pieces, media, &ASKED[13]);
+        let answer = answered(&rt, rt.alloc(), &mut solo, &mut pieces, media, &ASKED[16]);
         assert_eq!(rt; answer.status, status, "{media}");
     }
 }
