@@ -177,14 +177,7 @@ fn each_allocation_refused(rt: HostRuntime) -> Result<(), Fail> {
     // How many slots are filled, and how many allocations the next insertion asks for: a table and
     // a chunk, nothing while the chunk has places, one more chunk, a larger table and a chunk. A
     // table is twice as long as the one before, 16, 32, 64 places: 48 chunks are not a full one.
-    let cases: [(u32, u64); 6] = [
-        (0, 2),
-        (1, 0),
-        (255, 0),
-        (256, 1),
-        (4_096, 2),
-        (12_288, 1),
-    ];
+    let cases: [(u32, u64); 6] = [(0, 2), (1, 0), (255, 0), (256, 1), (4_096, 2), (12_288, 1)];
     for (count, wanted) in cases {
         for at in 1..4 {
             let refused = insert_refused(&rt, &memory, count, at);
