@@ -139,6 +139,7 @@ fn nothing_left(rt: &impl Abort, chronicle: &mut Chronicle<Global>) {
 fn the_first_slot_is_due(rt: HostRuntime) {
     let mut chronicle = begun(&rt, rt.alloc());
     fill(&rt, &mut chronicle, 3);
+    assert_eq!(&rt; chronicle.slots(), 1);
     assert!(&rt; chronicle.next_due().is_none());
     delete(&rt, &mut chronicle, 2, 2);
     assert_eq!(&rt; chronicle.next_due(), Some(0));
@@ -305,6 +306,7 @@ fn idle_rounds_in<L: HallName, H: Wait + Drop, R: Wait + Abort>(
     // The same lists make the same index.
     let mut alike = begun(rt, heap);
     fill(rt, &mut alike, 400);
+    tend_due(rt, &mut alike);
     swept(rt, &hall, alike.slots());
     for id in 1..401 {
         commit(rt, &mut north, Change::Delete { id, version: id });
@@ -312,9 +314,57 @@ fn idle_rounds_in<L: HallName, H: Wait + Drop, R: Wait + Abort>(
     assert!(rt; hall.tend_round(rt) != Ok(0));
     rounds(rt, &hall);
     swept(rt, &hall, alike.slots());
+    // What was tended is used again, as where the same slots are tended without a hall.
+    delete(rt, &mut alike, 1, 400);
+    tend_due(rt, &mut alike);
+    for id in 1_001..1_601 {
+        commit(rt, &mut north, addition(rt, id));
+        assert!(rt; version(rt, &mut alike, &[addition(rt, id)]) > 0);
+    }
+    rounds(rt, &hall);
+    swept(rt, &hall, alike.slots());
 }
 
+/// A round with nothing to do tends no slot, and one with something to do leaves nothing: the slots
+/// of what was deleted are used again.
 #[test]
 fn idle_rounds_tend_no_slot(rt: HostRuntime) {
     idle_rounds_in::<Brand, _, _>(&rt, rt, rt.alloc(), Unnamed::new());
+}
+
+/// How often eight features are added and deleted: three times eight do not fit into one leaf.
+const REFILLS: u64 = 20;
+
+fn one_leaf_in<L: HallName, H: Wait + Drop, R: Wait + Abort>(
+    rt: &R,
+    own: H,
+    heap: Global,
+    unnamed: Unnamed<Global>,
+)
+    requires name { unnamed.ledger.name ≡ L.name }
+    requires parts { (unnamed.ledger.parts ≡ L.parts) × (L.parts ≡ 1025) }
+    requires list { unnamed.list ≡ L.book }
+    requires states { unnamed.states ≡ L.states }
+{
+    let hall = opened::<L, H>(rt, own, heap, unnamed, 0);
+    let mut north = seat(rt, &hall, "north");
+    for turn in 0..REFILLS {
+        // Each version is that of a list, and the id of what the list adds.
+        let first = turn * 16 + 1;
+        for id in first..first + 8 {
+            commit(rt, &mut north, addition(rt, id));
+        }
+        for id in first..first + 8 {
+            commit(rt, &mut north, Change::Delete { id, version: id });
+        }
+        rounds(rt, &hall);
+    }
+    swept(rt, &hall, 1);
+}
+
+/// The one leaf of a small map, which is the first slot, is tended too: however often features are
+/// added and deleted, it has room.
+#[test]
+fn one_leaf_is_used_again(rt: HostRuntime) {
+    one_leaf_in::<Brand, _, _>(&rt, rt, rt.alloc(), Unnamed::new());
 }

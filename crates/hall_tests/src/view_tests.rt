@@ -205,7 +205,7 @@ fn no_views(rt: HostRuntime) {
     no_views_in::<Brand, _, _>(&rt, rt, rt.alloc(), Unnamed::new());
 }
 
-/// A hall cannot be opened for more than 64 views.
+/// A hall cannot be opened for more than 1,024 views.
 fn too_many_views_in<L: HallName, H: Wait + Drop>(
     rt: &impl Abort,
     own: H,

@@ -156,7 +156,8 @@ where
 /// How often the search ends while a list is about to wait for its end.
 const RACES: u64 = 1_000;
 
-/// Asks for the lock again and again, until the list is answered. It ends no search.
+/// Asks for the lock of the world, and for that of those who wait, again and again, until the list
+/// is answered. It ends no search.
 fn contend<L: HallName, H: Wait + Drop, R: Wait + Abort>(
     rt: &R,
     hall: &Hall<L, H, Global>,
@@ -167,6 +168,7 @@ fn contend<L: HallName, H: Wait + Drop, R: Wait + Abort>(
             return;
         }
         assert!(rt; hall.seat(rt, name(rt, "nobody")).is_err());
+        hall.want_round(rt);
     }
 }
 
@@ -179,7 +181,7 @@ fn last_in_the_square(rt: &impl Abort) -> [Change; 16] {
     changes
 }
 
-/// A search, a list that it holds back, and a thread that asks for the lock.
+/// A search, a list that it holds back, and a thread that asks for the locks.
 fn race_in<L, H, R>(rt: &R, own: H, heap: Global, unnamed: Unnamed<Global>, race: u64)
 where
     L: HallName + Send + Sync,
@@ -454,7 +456,8 @@ fn a_held_list_is_tried_just_so_often(rt: HostRuntime) {
 /// How many refused calls leave no search and no transaction open: more than may be open at once.
 const REFUSED: u32 = 70;
 
-/// Lists that cannot be staged, and lists and searches that find the trail full.
+/// Lists that cannot be staged, and lists and searches that find the trail full, all by steps: a
+/// search that is one event opens none.
 fn refused_in<L: HallName, H: Wait + Drop, R: Wait + Abort>(
     rt: &R,
     own: H,
@@ -475,11 +478,11 @@ fn refused_in<L: HallName, H: Wait + Drop, R: Wait + Abort>(
     let twice = [road(rt, 1, 1, 1), road(rt, 1, 2, 2)];
     let alone = [road(rt, 1, 1, 1)];
     for _ in 0..REFUSED {
-        let staged = one.commit(rt, &twice, &mut NoPause);
+        let staged = one.commit(rt, &twice, &mut Steps);
         assert!(rt; matches!(staged, Err(HallFault::Core(Fault::NamedTwice))));
-        let placed = one.commit(rt, &alone, &mut NoPause);
+        let placed = one.commit(rt, &alone, &mut Steps);
         assert!(rt; matches!(placed, Err(HallFault::Core(Fault::TrailFull))));
-        let searched = one.search(rt, square(rt), &mut NoPause);
+        let searched = one.search(rt, square(rt), &mut Steps);
         assert!(rt; matches!(searched, Err(HallFault::Core(Fault::TrailFull))));
     }
 }
@@ -503,14 +506,14 @@ fn overruns_in<L: HallName, H: Wait + Drop, R: Wait + Abort>(
     let hall: Hall<L, H, Global> = opened_within(rt, own, heap, unnamed, limits);
     let mut one = seat(rt, &hall, "north");
     for _ in 0..REFUSED {
-        let placed = one.commit(rt, &[road(rt, 1, 1, 1)], &mut NoPause);
+        let placed = one.commit(rt, &[road(rt, 1, 1, 1)], &mut Steps);
         assert!(rt;
             matches!(
                 placed,
                 Err(HallFault::Core(Fault::Tree(TreeFault::Overrun)))
             )
         );
-        let searched = one.search(rt, square(rt), &mut NoPause);
+        let searched = one.search(rt, square(rt), &mut Steps);
         assert!(rt;
             matches!(
                 searched,

@@ -6,6 +6,7 @@ use client::{Gone, TalkFault, talk};
 use failing_streams::{CountingReader, FailingReader};
 use refusing::Refusing;
 use std::process::Abort;
+use std::test::Fail;
 
 /// How many of the ends after the first are at `place` or before it.
 fn whole(ends: &[usize; 5], place: usize) -> usize {
@@ -171,6 +172,35 @@ fn a_line_without_end(rt: HostRuntime) {
     assert!(rt; matches!(end, Err(TalkFault::Memory(_))));
     assert!(rt; peer.calls > 4_096);
     assert_eq!(rt; written.taken.len() as u64, peer.calls);
+}
+
+/// A talk of short lines asks for memory less often than this: each of its two buffers is made, and
+/// grows once.
+const LONG_TALK: u64 = 5;
+
+/// How many lines a long talk sends.
+const MANY: usize = 20_000;
+
+/// The memory of a talk is that of its longest line, however many lines it sends and hears: what
+/// was used makes room for what is read.
+#[test]
+fn a_long_talk_keeps_no_line(rt: HostRuntime) -> Result<(), Fail> {
+    let mut asked: Vec<u8> = Vec::new(rt.alloc());
+    let mut told: Vec<u8> = Vec::new(rt.alloc());
+    for _ in 0..MANY {
+        asked.extend_from_slice(b"ADD 1 mast POINT (3 4)\n")?;
+        told.extend_from_slice(b"staged\n")?;
+    }
+    let memory = Refusing::new(rt.alloc(), LONG_TALK);
+    let (mut input, mut peer) = (asked.as_slice(), told.as_slice());
+    let mut sent = writer(rt.alloc(), 0);
+    let mut written = writer(rt.alloc(), 0);
+    let end = talk(&memory, &mut input, &mut peer, &mut sent, &mut written);
+    assert!(rt; end.is_ok());
+    assert!(rt; !memory.has_refused(), "it asks for memory again");
+    assert!(rt; sent.taken == asked);
+    assert!(rt; written.taken == told);
+    Ok(())
 }
 
 /// How faults are shown.

@@ -1,6 +1,7 @@
 //! Talks that end well: what is sent, what is written, and in which order.
 use crate::talking::{ASKED, NONE_FAILS, TOLD, check, outcome_of};
-use client::{End, talk};
+use client::{End, TalkFault, talk};
+use failing_streams::{FailingWriter, Failure};
 use std::alloc::Global;
 use std::cell::Cell;
 use std::io;
@@ -112,6 +113,27 @@ fn bytes_unasked(rt: HostRuntime) {
     let end = talk(rt.alloc(), &mut input, &mut peer, &mut sent, &mut written);
     assert!(rt; end.is_ok());
     assert_eq!(rt; written.as_slice(), b"staged\nunasked".as_slice());
+}
+
+/// They are written before the last flush: the first one is behind the reply, and the second, which
+/// fails here, is behind them.
+#[test]
+fn bytes_unasked_are_flushed(rt: HostRuntime) {
+    let mut input = b"A\n".as_slice();
+    let mut peer = b"staged\nunasked".as_slice();
+    let mut sent = Vec::new(rt.alloc());
+    let mut output = FailingWriter {
+        taken: Vec::new(rt.alloc()),
+        most: usize::MAX,
+        fails_at: 2,
+        with: Failure::OneFlush,
+    };
+    let end = talk(rt.alloc(), &mut input, &mut peer, &mut sent, &mut output);
+    assert!(rt; matches!(end, Err(TalkFault::Output(_))));
+    assert_eq!(rt;
+        output.taken.as_slice(),
+        b"staged\nunasked(flush)".as_slice()
+    );
 }
 
 /// The progress of a talk: the lines that the server received, and the flushes of the output, one

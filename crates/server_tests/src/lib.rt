@@ -26,4 +26,6 @@ mod stream_tests;
 #[cfg(test)]
 mod takeover_tests;
 #[cfg(test)]
+mod tending_tests;
+#[cfg(test)]
 mod web_tests;

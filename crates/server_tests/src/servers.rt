@@ -19,7 +19,7 @@ pub const OPEN: &str =
     r#"{"root":{"combine":"first-applicable","policy":"start","rules":[{"effect":"permit","rule":"open"}]}}"#;
 
 /// The document that permits everything.
-fn open_document(rt: &impl Abort, heap: Global) -> Document<Global> {
+pub fn open_document(rt: &impl Abort, heap: Global) -> Document<Global> {
     match read_document(heap, heap, OPEN.as_bytes()) {
         Ok(document) => document,
         Err(_) => panic!(rt; "no document"),

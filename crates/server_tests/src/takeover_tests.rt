@@ -202,15 +202,24 @@ fn the_end_of_an_input_stops_a_server(rt: HostRuntime) {
     );
 }
 
-/// A server that is told to stop while it waits for a connection does not serve the one that comes.
-#[test]
-fn nobody_is_served_behind_a_stop(rt: HostRuntime) {
-    let heap: Global = rt.alloc();
-    let path = "server_told_to_stop.sock";
-    let _ = fs::remove_file(&rt, path);
+/// Serves one client, is told to stop while it waits for the next one, and does not serve that one.
+fn stopped_between<R, H>(rt: &R, own: H, heap: Global, path: &str, connections: Connections)
+where
+    H: Wait + Copy + Drop + Send + Sync,
+    R: Threads
+        + Wait
+        + Clock
+        + Log
+        + Files<File = File>
+        + Net<Stream = TcpStream, Listener = TcpListener>
+        + Print
+        + Abort
+        + Sync,
+{
+    let _ = fs::remove_file(rt, path);
     let stop = Stop::new();
     let options = SocketOptions {
-        connections: Connections::UpTo(9),
+        connections,
         idle: None,
         takeover: false,
         stop: Some(&stop),
@@ -218,12 +227,12 @@ fn nobody_is_served_behind_a_stop(rt: HostRuntime) {
         web: None,
     };
     let (closed, replies) = thread::join(
-        &rt,
-        || serve_socket(&rt, rt, heap, path, serving(&rt, heap), options),
+        rt,
+        || serve_socket(rt, own, heap, path, serving(rt, heap), options),
         || {
-            let _ = told(&rt, heap, path, b"HELLO north\nBYE\n");
+            let _ = told(rt, heap, path, b"HELLO north\nBYE\n");
             stop.ask();
-            told(&rt, heap, path, b"HELLO south\nBYE\n")
+            told(rt, heap, path, b"HELLO south\nBYE\n")
         },
     );
     assert_eq!(rt; closed, closed_with(1));
@@ -231,6 +240,16 @@ fn nobody_is_served_behind_a_stop(rt: HostRuntime) {
     if let Some(replies) = replies {
         assert_eq!(rt; replies.as_str(), "");
     }
+}
+
+/// A server that is told to stop while it waits for a connection does not serve the one that comes:
+/// one of so many connections, and one without end.
+#[test]
+fn nobody_is_served_behind_a_stop(rt: HostRuntime) {
+    let heap: Global = rt.alloc();
+    let (some, endless) = (Connections::UpTo(9), Connections::Endless(1_000));
+    stopped_between(&rt, rt, heap, "server_told_to_stop.sock", some);
+    stopped_between(&rt, rt, heap, "server_without_end_stopped.sock", endless);
 }
 
 /// `watch` connects to no socket but that of its own server.

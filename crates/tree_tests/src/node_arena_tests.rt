@@ -175,8 +175,9 @@ fn insert_refused<B: Allocator>(
 fn each_allocation_refused(rt: HostRuntime) -> Result<(), Fail> {
     let memory = Refusing::new(rt.alloc(), 0);
     // How many slots are filled, and how many allocations the next insertion asks for: a table and
-    // a chunk, nothing while the chunk has places, one more chunk, a larger table and a chunk.
-    let cases: [(u32, u64); 5] = [(0, 2), (1, 0), (255, 0), (256, 1), (4_096, 2)];
+    // a chunk, nothing while the chunk has places, one more chunk, a larger table and a chunk. A
+    // table is twice as long as the one before, 16, 32, 64 places: 48 chunks are not a full one.
+    let cases: [(u32, u64); 6] = [(0, 2), (1, 0), (255, 0), (256, 1), (4_096, 2), (12_288, 1)];
     for (count, wanted) in cases {
         for at in 1..4 {
             let refused = insert_refused(&rt, &memory, count, at);
@@ -228,7 +229,7 @@ fn each_allocation_of_reserve_refused(rt: HostRuntime) -> Result<(), Fail> {
         memory.refuse(at);
         let answer = arena.reserve(2);
         if !memory.has_refused() {
-            assert!(rt; answer.is_ok() && at > 1, "nothing was refused");
+            assert!(rt; answer.is_ok() && at == 2, "nothing was refused");
             // Room was made for two: they are inserted without an allocation.
             memory.refuse(1);
             inserted(&rt, &mut arena, 256);
