@@ -9,7 +9,7 @@ use Rattle.std.proofs.sync.Arc.TheSendSync as arc
 use Rattle.std.proofs.vec.Vec.TheSendSync as vec
 use Rattle.plane.proofs.shape.Shape.TheSendSync as area
 use Rattle.features.proofs.actors.Subject.TheSendSync as subject
-use Rattle.features.proofs.rows.Change.TheSendSync as change
+use Rattle.kept_shapes.proofs.changes.ChangeList.TheSendSync as list
 use Rattle.policy_documents.proofs.CrossingLemmas.{◌&◌, u32_send, u32_sync, u64_send, u64_sync, model_send, model_sync}
 use Rattle.decision.proofs.CrossingLemmas.{shared_decider_send, shared_decider_sync}
 use Rattle.judging.proofs.causes.Refusal.TheSendSync as refusal
@@ -23,7 +23,7 @@ module _ (A : RattleType) (g : Ghosts A.Denot) where
   deed_send : IsSend A → Frees g g.dealloc_token → IsSend (Deed.the_field A g).row
   deed_send s f =
       let numbers = vec.the_send u64 A g u64_send s f in
-      let changes = vec.the_send _ A g change.the_send s f in
+      let changes = list.the_send A g s f in
       let answered = subject.the_field_send & area.the_send & numbers & numbers & tt in
       let applied = subject.the_field_send & u64_send & changes & tt in
       let refused = subject.the_field_send & changes & refusal.the_field_send & tt in
@@ -33,7 +33,7 @@ module _ (A : RattleType) (g : Ghosts A.Denot) where
   deed_sync : IsSync A → IsSync (Deed.the_field A g).row
   deed_sync y =
       let numbers = vec.the_sync u64 A g u64_sync y in
-      let changes = vec.the_sync _ A g change.the_sync y in
+      let changes = list.the_sync A g y in
       let answered = subject.the_field_sync & area.the_sync & numbers & numbers & tt in
       let applied = subject.the_field_sync & u64_sync & changes & tt in
       let refused = subject.the_field_sync & changes & refusal.the_field_sync & tt in

@@ -7,8 +7,9 @@ ghost use Rattle.audit_trail.specs.Views.{deed_view};
 
 use crate::records::{Deed, Record};
 use decision::Decider;
-use features::{Change, Subject, same_changes};
+use features::Subject;
 use judging::{Cause, Refusal};
+use kept_shapes::ChangeList;
 use plane::Shape;
 use std::alloc::Allocator;
 
@@ -90,7 +91,7 @@ fn is_applied_list<A: Allocator>(
     deed: &Deed<A>,
     subject: &Subject,
     version: u64,
-    changes: &[Change],
+    changes: &ChangeList<A>,
 ) -> bool
     ensures { result ≡ same_deed (applied subject.now version changes.now) (deed_view deed.now) }
 {
@@ -108,7 +109,7 @@ fn is_applied_list<A: Allocator>(
 fn is_refused_list<A: Allocator>(
     deed: &Deed<A>,
     subject: &Subject,
-    changes: &[Change],
+    changes: &ChangeList<A>,
     refusal: &Refusal,
 ) -> bool
     ensures { result
@@ -152,10 +153,15 @@ fn same_rows(ids: &[u64], versions: &[u64], others: &[u64], more: &[u64]) -> boo
 }
 
 /// Whether two lists have the same subject and equal changes.
-fn same_list(subject: &Subject, changes: &[Change], other: &Subject, others: &[Change]) -> bool
+fn same_list<A: Allocator>(
+    subject: &Subject,
+    changes: &ChangeList<A>,
+    other: &Subject,
+    others: &ChangeList<A>,
+) -> bool
     ensures { result ≡ same_list subject.now changes.now other.now others.now }
 {
-    subject == other && same_changes(changes, others)
+    subject == other && changes.is_same(others)
 }
 
 /// Whether two refusals are equal.

@@ -15,6 +15,7 @@ use crate::trails::{FIRST_LIMIT, RECORD_LIMIT, Trail, TrailFault};
 use decision::Decider;
 use features::{Change, Name, Subject};
 use judging::{Cause, Refusal};
+use kept_shapes::ChangeList;
 use memory::{GrowVec, NoMemory, json_string, json_text, put_member, text};
 use plane::Shape;
 use policy_text::document_value;
@@ -150,12 +151,12 @@ fn put_answer(
 }
 
 /// Puts the list that was applied, and its version.
-fn put_applied_list(
+fn put_applied_list<A: Allocator>(
     members: &mut Map<String, Value>,
     heap: Global,
     subject: &Subject,
     version: u64,
-    changes: &[Change],
+    changes: &ChangeList<A>,
 ) -> Result<(), NoMemory>
     ensures { OnOk result
         (members_view members.new.entries
@@ -165,15 +166,20 @@ fn put_applied_list(
     put_text(members, heap, "kind", "applied")?;
     put_name(members, heap, "subject", &subject.name)?;
     put_member(members, heap, "version", Value::from(version))?;
-    put_member(members, heap, "changes", changes_value(heap, changes)?)
+    put_member(
+        members,
+        heap,
+        "changes",
+        changes_value(heap, &changes.copied(heap)?)?,
+    )
 }
 
 /// Puts the list that was rejected, and why.
-fn put_refused_list(
+fn put_refused_list<A: Allocator>(
     members: &mut Map<String, Value>,
     heap: Global,
     subject: &Subject,
-    changes: &[Change],
+    changes: &ChangeList<A>,
     refusal: &Refusal,
 ) -> Result<(), NoMemory>
     ensures { OnOk result
@@ -183,7 +189,12 @@ fn put_refused_list(
 {
     put_text(members, heap, "kind", "refused")?;
     put_name(members, heap, "subject", &subject.name)?;
-    put_member(members, heap, "changes", changes_value(heap, changes)?)?;
+    put_member(
+        members,
+        heap,
+        "changes",
+        changes_value(heap, &changes.copied(heap)?)?,
+    )?;
     put_refusal(members, heap, refusal)
 }
 

@@ -3,8 +3,9 @@
 ghost use Rattle.std.specs.Prelude.{◌≡◌};
 
 use decision::Decider;
-use features::{Change, Subject};
+use features::Subject;
 use judging::Refusal;
+use kept_shapes::ChangeList;
 use plane::Shape;
 use std::alloc::Allocator;
 use std::marker::Model;
@@ -24,12 +25,12 @@ pub enum Deed<A: Allocator> {
     Applied {
         subject: Subject,
         version: u64,
-        changes: Vec<Change, A>,
+        changes: ChangeList<A>,
     },
     /// A list of changes was rejected.
     Refused {
         subject: Subject,
-        changes: Vec<Change, A>,
+        changes: ChangeList<A>,
         refusal: Refusal,
     },
     /// A document was put in force, as this edition.

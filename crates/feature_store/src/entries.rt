@@ -5,6 +5,7 @@ ghost use Rattle.feature_store.specs.Blocks.{AreFilled, AreFilledBut, HasGap, Ha
 ghost use Rattle.feature_store.specs.Places.{AreRising, IsAt, IsGapFor};
 ghost use Rattle.feature_store.specs.Tables.{IsRenumbered, rows_at};
 
+use crate::rows::Row;
 use crate::tables::{FEATURE_LIMIT, LIST_LIMIT};
 use arrayvec::ArrayVec;
 use features::Feature;
@@ -580,7 +581,11 @@ fn place_at(blocks: &[Block], at: usize) -> Option<u32>
 }
 
 /// Appends copies of the features at the places of these entries.
-fn copy_block<A: Allocator>(rows: &mut Vec<Feature, A>, entries: &[Entry], features: &[Feature])
+fn copy_block<A: Allocator, B: Allocator>(
+    rows: &mut Vec<Feature, B>,
+    entries: &[Entry],
+    features: &[Row<A>],
+)
     requires in_range { All (λ place. place < length features.now) (places_in entries.now) }
     requires room { vec_len rows.old + length entries.now ≤ vec_capacity rows.old }
     ensures rows { rows.new.items ≡ rows.old.items
@@ -589,15 +594,15 @@ fn copy_block<A: Allocator>(rows: &mut Vec<Feature, A>, entries: &[Entry], featu
     ensures capacity { vec_capacity rows.new ≡ vec_capacity rows.old }
 {
     for entry in entries {
-        rows.push_reserved(features[entry.place as usize]);
+        rows.push_reserved(features[entry.place as usize].feature());
     }
 }
 
 /// Appends copies of the features at the places of all entries.
-fn copy_blocks<A: Allocator>(
-    rows: &mut Vec<Feature, A>,
+fn copy_blocks<A: Allocator, B: Allocator>(
+    rows: &mut Vec<Feature, B>,
     blocks: &[Block],
-    features: &[Feature],
+    features: &[Row<A>],
 ) -> Result<(), NoMemory>
     requires in_range { All (λ place. place < length features.now)
         (places_in (entries_of blocks.now)) }
@@ -674,7 +679,7 @@ impl<A: Allocator> Entries<A> {
     pub(crate) fn copy_rows<B: Allocator>(
         &self,
         rows: &mut Vec<Feature, B>,
-        features: &[Feature],
+        features: &[Row<A>],
     ) -> Result<(), NoMemory>
         requires { All (λ place. place < length features.now) (places_in self.now.items) }
         ensures { OnOk result

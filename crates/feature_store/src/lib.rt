@@ -4,6 +4,7 @@
 mod entries;
 mod lookups;
 mod meters;
+mod rows;
 mod stores;
 mod tables;
 

@@ -1,7 +1,6 @@
 //! Looking up one id after another.
 
 ghost use Rattle.std.specs.Prelude.{◌≡◌};
-ghost use Rattle.std.specs.Option.{option_copied};
 ghost use Rattle.features.specs.Rows.{feature_with};
 ghost use Rattle.feature_store.specs.Ticks.{ticked_by};
 
@@ -38,8 +37,8 @@ impl<'s, A: Allocator> Lookup<'s, A> {
     }
 
     /// The feature with this id. Costs one tick.
-    pub fn get(&mut self, id: u64, meter: &mut Meter) -> Option<&'s Feature>
-        ensures value { option_copied result ≡ feature_with id self.old }
+    pub fn get(&mut self, id: u64, meter: &mut Meter) -> Option<Feature>
+        ensures value { result ≡ feature_with id self.old }
         ensures same { self.new ≡ self.old }
         ensures cost { meter.new ≡ ticked_by 1 meter.old }
     {

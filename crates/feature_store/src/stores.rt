@@ -1,18 +1,21 @@
 //! The store of features.
 
-ghost use Rattle.std.specs.Prelude.{◌≡◌, ◌+◌, ◌<◌, ◌≤◌, ◌↔◌, [], ◌∷◌, List, ℕ, length, slice_get, IsOk, IsTrue, IfOk, IfErr, OnOk, OnErr};
-ghost use Rattle.std.specs.Option.{option_copied};
+ghost use Rattle.std.specs.Prelude.{◌≡◌, ◌+◌, ◌<◌, ◌≤◌, ◌↔◌, [], ◌∷◌, ◌++◌, List, ℕ, length, slice_get, IsOk, IsTrue, IfOk, IfErr, OnOk, OnErr};
 ghost use Rattle.memory.specs.NoMemory.{out_of_memory};
+ghost use Rattle.plane.specs.declared.point.Point.{Point};
 ghost use Rattle.features.specs.Changes.{CanApply, CanChange, additions, after, after_change, deletions};
 ghost use Rattle.features.specs.Rows.{IsSortedById, feature_with};
+ghost use Rattle.kept_shapes.specs.Rings.{Begins, rings_by, rings_in};
 ghost use Rattle.feature_store.specs.Tables.{HasRoom, IsSound, rows_of};
 ghost use Rattle.feature_store.specs.Ticks.{ticked_by};
 
 use crate::entries::Entries;
 use crate::lookups::Lookup;
 use crate::meters::Meter;
+use crate::rows::Row;
 use crate::tables::{self, FEATURE_LIMIT, LIST_LIMIT, Table};
 use features::{Change, Feature, Name};
+use kept_shapes::{KeptShape, Rings, kept_rings};
 use memory::{NoMemory, vec_with_room};
 use std::alloc::Allocator;
 use std::fmt;
@@ -115,8 +118,8 @@ impl<A: Allocator> Store<A> {
     }
 
     /// The feature with this id. Costs one tick.
-    pub fn get(&self, id: u64, meter: &mut Meter) -> Option<&Feature>
-        ensures value { option_copied result ≡ feature_with id self.now }
+    pub fn get(&self, id: u64, meter: &mut Meter) -> Option<Feature>
+        ensures value { result ≡ feature_with id self.now }
         ensures cost { meter.new ≡ ticked_by 1 meter.old }
     {
         meter.tick(1);
@@ -132,13 +135,13 @@ impl<A: Allocator> Store<A> {
 
     /// The feature at this index of the list sorted by id. Costs no tick. It walks over the list, a
     /// block of up to 512 features at a time.
-    pub fn row_at(&self, at: usize) -> Option<&Feature>
-        ensures value { option_copied result ≡ slice_get self.now at }
+    pub fn row_at(&self, at: usize) -> Option<Feature>
+        ensures value { result ≡ slice_get self.now at }
         ensures sorted { IsSortedById self.now }
         ensures within { length self.now ≤ FEATURE_LIMIT }
     {
         let place = self.table.entries.place_at(at)?;
-        Some(&self.table.features[place as usize])
+        Some(self.table.features[place as usize].feature())
     }
 
     /// A copy of all features, by rising id. Costs one tick for each. The only error is `Memory`;
@@ -173,10 +176,13 @@ impl<A: Allocator> Store<A> {
         let deleted = count_deletions(changes);
         self.table.features.len() + added - deleted
     }
+}
 
+impl<A: Allocator + Copy> Store<A> {
     /// Makes all changes of a list, or none. `Full` exactly if there would be more than
     /// `FEATURE_LIMIT` features; otherwise `Memory` if room for the added ones is refused. On an
-    /// error the store is unchanged. A list that adds no feature allocates nothing.
+    /// error the store is unchanged. A list that adds no feature, and gives none a shape of more
+    /// than two corners, allocates nothing.
     pub fn apply(
         &mut self,
         version: u64,
@@ -189,15 +195,16 @@ impl<A: Allocator> Store<A> {
         ensures err { OnErr result (self.new ≡ self.old) }
         ensures full { (result ≡ Err StoreFault.Full)
             ↔ (FEATURE_LIMIT < length (after version office changes.now self.old)) }
-        ensures certain { additions changes.now ≡ 0 → IsOk result }
+        ensures certain { additions changes.now ≡ 0 → rings_in changes.now ≡ [] → IsOk result }
     {
         let added = count_additions(changes);
         let deleted = count_deletions(changes);
         if self.table.features.len() + added > FEATURE_LIMIT + deleted {
             return Err(StoreFault::Full);
         }
+        let mut rings = kept_rings(*self.table.features.allocator(), changes)?;
         tables::make_room(&mut self.table, added)?;
-        make_all(&mut self.table, version, office, changes);
+        make_all(&mut self.table, version, office, changes, &mut rings);
         Ok(())
     }
 }
@@ -233,39 +240,57 @@ fn count_deletions(changes: &[Change]) -> usize
 }
 
 /// Makes one change; the table has room for it.
-fn make<A: Allocator>(table: &mut Table<A>, version: u64, office: Name, change: Change)
+fn make<A: Allocator>(
+    table: &mut Table<A>,
+    version: u64,
+    office: Name,
+    change: Change,
+    rings: &mut Rings<A>,
+)
     requires sound { IsSound table.old }
     requires can_change { CanChange change (rows_of table.old) }
     requires room { HasRoom (additions (change ∷ [])) table.old }
+    requires rings { Begins (rings_by change) rings.old }
     ensures rows { rows_of table.new ≡ after_change version office change (rows_of table.old) }
     ensures sound { IsSound table.new }
     ensures room { (n : ℕ) → HasRoom (n + additions (change ∷ [])) table.old → HasRoom n table.new }
+    ensures left { (rest : List (List Point)) → rings.old ≡ rings_by change ++ rest
+        → rings.new ≡ rest }
 {
     match change {
-        Change::Add { id, class, shape } => tables::put(
-            table,
-            Feature {
+        Change::Add { id, class, shape } => {
+            let added = Feature {
                 id,
                 version,
                 office,
                 class,
                 shape,
-            },
-        ),
-        Change::Reshape { id, shape, .. } => tables::reshape(table, id, version, shape),
+            };
+            tables::put(table, Row::new(added, rings));
+        }
+        Change::Reshape { id, shape, .. } => {
+            tables::reshape(table, id, version, KeptShape::new(shape, rings));
+        }
         Change::Delete { id, .. } => tables::take_out(table, id),
     }
 }
 
 /// Makes each change of a list, in order.
-fn make_all<A: Allocator>(table: &mut Table<A>, version: u64, office: Name, changes: &[Change])
+fn make_all<A: Allocator>(
+    table: &mut Table<A>,
+    version: u64,
+    office: Name,
+    changes: &[Change],
+    rings: &mut Rings<A>,
+)
     requires sound { IsSound table.old }
     requires can_apply { CanApply changes.now (rows_of table.old) }
     requires room { HasRoom (additions changes.now) table.old }
+    requires rings { rings.old ≡ rings_in changes.now }
     ensures rows { rows_of table.new ≡ after version office changes.now (rows_of table.old) }
     ensures sound { IsSound table.new }
 {
     for change in changes {
-        make(table, version, office, *change);
+        make(table, version, office, *change, rings);
     }
 }

@@ -51,7 +51,7 @@ fn objection_to<A: Allocator>(
 {
     let mut meter = Meter::new();
     match store.get(change.id(), &mut meter) {
-        Some(feature) => objection_where_present(decider, subject, change, feature),
+        Some(feature) => objection_where_present(decider, subject, change, &feature),
         None => objection_where_absent(decider, subject, change),
     }
 }

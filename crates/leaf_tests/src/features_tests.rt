@@ -3,6 +3,7 @@
 ghost use Rattle.std.specs.Prelude.{◌≡◌};
 ghost use Rattle.features.specs.Changes.{change_id};
 
+use crate::kept_tests::shape_of;
 use feature_store::{Meter, Store, StoreFault};
 use features::{Change, Feature, Name, Subject, Subjects, SubjectsFault};
 use plane::{Point, Shape};
@@ -53,7 +54,7 @@ fn deletion(id: u64) -> Change
 }
 
 /// Applies a list of one change. The look-up before it asserts what `Store::apply` requires.
-fn make<A: Allocator>(
+fn make<A: Allocator + Copy>(
     rt: &impl Abort,
     store: &mut Store<A>,
     version: u64,
@@ -143,7 +144,7 @@ fn faults_are_shown_by_their_codes(rt: HostRuntime) -> Result<(), Fail> {
 }
 
 /// Adds features with these ids.
-fn fill<A: Allocator>(rt: &impl Abort, store: &mut Store<A>, ids: &[u64]) {
+fn fill<A: Allocator + Copy>(rt: &impl Abort, store: &mut Store<A>, ids: &[u64]) {
     for id in ids {
         assert!(rt; make(rt, store, 1, addition(rt, *id)).is_ok());
     }
@@ -156,19 +157,19 @@ fn four<A: Allocator + Copy>(rt: &impl Abort, alloc: A) -> Store<A> {
     store
 }
 
-fn assert_ids<A: Allocator>(rt: &impl Abort, store: &Store<A>, ids: &[u64]) {
+fn assert_ids<A: Allocator + Copy>(rt: &impl Abort, store: &Store<A>, ids: &[u64]) {
     assert!(rt; store.len() == ids.len());
     for (at, id) in ids.iter().enumerate() {
-        let row = store.row_at(at).copied();
+        let row = store.row_at(at);
         assert!(rt; row.is_some_and(|row| row.id == *id));
-        assert!(rt; store.get(*id, &mut Meter::new()).copied() == row);
+        assert!(rt; store.get(*id, &mut Meter::new()) == row);
     }
     assert!(rt; store.row_at(ids.len()).is_none());
 }
 
 /// Checks that these are all rows by rising id, read at one tick each, and that a look-up takes one
 /// tick.
-fn check_rows<A: Allocator>(
+fn check_rows<A: Allocator + Copy>(
     rt: &impl Abort,
     store: &Store<A>,
     rows: &[Feature],
@@ -176,7 +177,7 @@ fn check_rows<A: Allocator>(
 ) {
     assert_eq!(rt; meter.ticks(), 4);
     assert!(rt; rows.iter().map(|row| row.id).eq([3, 5, 7, 9]));
-    assert_eq!(rt; store.get(7, meter), rows.get(2));
+    assert_eq!(rt; store.get(7, meter), rows.get(2).copied());
     assert_eq!(rt; store.get(8, meter), None);
     assert_eq!(rt; meter.ticks(), 6);
 }
@@ -194,20 +195,20 @@ fn store(rt: HostRuntime) -> Result<(), Fail> {
 }
 
 /// Reshapes feature 5, and checks that its neighbour is unchanged.
-fn check_reshaped<A: Allocator>(rt: &impl Abort, store: &mut Store<A>) {
+fn check_reshaped<A: Allocator + Copy>(rt: &impl Abort, store: &mut Store<A>) {
     let mut meter = Meter::new();
-    let before = store.get(5, &mut meter).copied();
-    let neighbour = store.get(7, &mut meter).copied();
+    let before = store.get(5, &mut meter);
+    let neighbour = store.get(7, &mut meter);
     assert!(rt; make(rt, store, 8, reshape(rt, 5)).is_ok());
     assert_ids(rt, store, &[3, 5, 7, 9]);
-    let after = store.get(5, &mut meter).copied();
+    let after = store.get(5, &mut meter);
     assert!(rt; before.is_some() && after.is_some());
     let before = before.unwrap();
     let after = after.unwrap();
     assert_eq!(rt; (before.version, after.version), (1, 8));
     assert!(rt; before.shape != after.shape && after.shape == point(rt, 3, 4));
     assert!(rt; (before.office, before.class) == (after.office, after.class));
-    assert_eq!(rt; store.get(7, &mut meter).copied(), neighbour);
+    assert_eq!(rt; store.get(7, &mut meter), neighbour);
 }
 
 #[test]
@@ -217,13 +218,18 @@ fn reshaped(rt: HostRuntime) -> Result<(), Fail> {
 }
 
 /// Deletes one id, and checks which ids are left.
-fn check_deleted<A: Allocator>(rt: &impl Abort, store: &mut Store<A>, id: u64, left: &[u64]) {
+fn check_deleted<A: Allocator + Copy>(
+    rt: &impl Abort,
+    store: &mut Store<A>,
+    id: u64,
+    left: &[u64],
+) {
     assert!(rt; make(rt, store, 2, deletion(id)).is_ok());
     assert_ids(rt, store, left);
 }
 
 /// Deletes all ids one after the other, and adds one.
-fn check_emptied<A: Allocator>(rt: &impl Abort, store: &mut Store<A>) {
+fn check_emptied<A: Allocator + Copy>(rt: &impl Abort, store: &mut Store<A>) {
     for (id, left) in [(7, 3), (3, 2), (9, 1), (5, 0)] {
         assert!(rt; make(rt, store, 2, deletion(id)).is_ok());
         assert_eq!(rt; store.len(), left);
@@ -255,7 +261,7 @@ fn next_random(state: &mut u64) -> u64 {
 }
 
 /// Whether the id was in a sorted list: it is removed if it was, and inserted otherwise.
-fn toggle<A: Allocator>(rt: &impl Abort, plain: &mut Vec<u64, A>, id: u64) -> bool {
+fn toggle<A: Allocator + Copy>(rt: &impl Abort, plain: &mut Vec<u64, A>, id: u64) -> bool {
     match plain.binary_search(&id) {
         Ok(at) => {
             plain.remove(at);
@@ -331,7 +337,7 @@ fn blocks_as_a_plain_list(rt: HostRuntime) -> Result<(), Fail> {
 
 /// Adds 3,500 ids, greater ones in each round, and deletes all of them but each
 /// 256th.
-fn fill_and_thin<A: Allocator>(rt: &impl Abort, store: &mut Store<A>, round: u64) {
+fn fill_and_thin<A: Allocator + Copy>(rt: &impl Abort, store: &mut Store<A>, round: u64) {
     for step in 0..3_500 {
         let id = round % 100 * 10_000 + step;
         assert!(rt; make(rt, store, 1, addition(rt, id)).is_ok());
@@ -427,12 +433,63 @@ fn rows_after_a_refusal(rt: HostRuntime) -> Result<(), Fail> {
     Ok(())
 }
 
-/// A reshape and a deletion allocate nothing, nor does an addition after a deletion.
-fn change_without_memory<A: Allocator>(rt: &impl Abort, store: &mut Store<A>) {
+/// A reshape to a point and a deletion allocate nothing, nor does an addition after a deletion.
+fn change_without_memory<A: Allocator + Copy>(rt: &impl Abort, store: &mut Store<A>) {
     assert!(rt; make(rt, store, 2, reshape(rt, 6)).is_ok());
     assert!(rt; make(rt, store, 3, deletion(5)).is_ok());
     assert!(rt; make(rt, store, 4, addition(rt, 1)).is_ok());
     assert_ids(rt, store, &[1, 6, 8, 9]);
+}
+
+/// Gives feature 7 this shape, and checks that the store has it.
+fn check_kept(rt: &impl Abort, store: &mut Store<Global>, shape: Shape) {
+    let change = Change::Reshape {
+        id: 7,
+        version: 1,
+        shape,
+    };
+    assert!(rt; make(rt, store, 2, change).is_ok());
+    let found = store.get(7, &mut Meter::new());
+    assert!(rt; found.is_some_and(|feature| feature.shape == shape));
+}
+
+/// A store keeps shapes of 1 to 16 corners, whatever the feature's shape was before.
+#[test]
+fn shapes_of_every_size(rt: HostRuntime) -> Result<(), Fail> {
+    let heap = rt.alloc();
+    let mut store = Store::new(heap);
+    assert!(rt; make(&rt, &mut store, 1, addition(&rt, 7)).is_ok());
+    for count in 1..17 {
+        for before in [1, 2, 3, 16] {
+            check_kept(&rt, &mut store, shape_of(&rt, heap, before));
+            check_kept(&rt, &mut store, shape_of(&rt, heap, count));
+        }
+    }
+    Ok(())
+}
+
+/// A reshape to four corners takes memory. Where that is refused, the feature is as it was.
+#[test]
+fn rings_refused(rt: HostRuntime) -> Result<(), Fail> {
+    let memory = Refusing::new(rt.alloc(), 0);
+    let mut store = full_of_four(&rt, &memory);
+    let shape = shape_of(&rt, rt.alloc(), 4);
+    let change = Change::Reshape {
+        id: 6,
+        version: 1,
+        shape,
+    };
+    for at in 1..3 {
+        memory.refuse(at);
+        assert!(rt; make(&rt, &mut store, 2, change).is_err() && memory.has_refused());
+        let found = store.get(6, &mut Meter::new());
+        assert!(rt; found.is_some_and(|feature| feature.shape == point(&rt, 1, 2)));
+    }
+    memory.refuse(3);
+    assert!(rt; make(&rt, &mut store, 2, change).is_ok() && !memory.has_refused());
+    let found = store.get(6, &mut Meter::new());
+    assert!(rt; found.is_some_and(|feature| feature.shape == shape));
+    Ok(())
 }
 
 /// With the next allocation refused, a change that allocates nothing succeeds, and `dump` fails.

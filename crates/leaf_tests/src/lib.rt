@@ -9,6 +9,8 @@ mod decision_tests;
 #[cfg(test)]
 mod features_tests;
 #[cfg(test)]
+mod kept_tests;
+#[cfg(test)]
 mod lines;
 #[cfg(test)]
 mod plane_tests;

@@ -1,5 +1,5 @@
 -- Events that are admitted and do what `Happens` says.
-use Rattle.std.proofs.Common.{◌≡◌, ◌≢◌, ℕ, ◌+◌, ◌<◌, ◌==◌, nat_lt, Bool, true, false, List, length, Result, Ok, Err, IsErrAnd, refl, subst, sym, arith}
+use Rattle.std.proofs.Common.{◌≡◌, ◌≢◌, ℕ, ◌+◌, ◌<◌, ◌≤◌, ◌==◌, nat_lt, Bool, true, false, List, length, Result, Ok, Err, IsErrAnd, refl, subst, sym, arith}
 use Rattle.std.specs.Bool.{MatchBool}
 use Rattle.std.proofs.lemmas.Bool.Decides.{nat_tests}
 use Rattle.features.specs.declared.actors.Subject.{Subject}
@@ -13,7 +13,10 @@ use Rattle.plain_world.specs.declared.faults.Fault.TheVariants as faults
 use Rattle.plain_world.specs.declared.outcomes.Outcome.TheVariants as outcomes
 use Rattle.plain_world.specs.Admitting.{LAST}
 use Rattle.plain_world.specs.Events.{Reply, Ended, Failed, reply_of, If, UnlessMemory, is_memory, Applies, Commits, recorded, without_transaction}
+use Rattle.feature_store.specs.declared.stores.StoreFault.{StoreFault}
+use Rattle.feature_store.specs.declared.stores.StoreFault.TheVariants.{Full, Memory}
 use Rattle.plain_world.specs.Staging.{staged_in}
+use Rattle.plain_world.specs.StoreFaults.{fault_of_store}
 use Rattle.plain_world.specs.States.{WorldData, most_features}
 
 pub admitted : {T : Type 0} (may : Result T Fault) (x : T) (old new : WorldData) (reply : Reply) (Does : T → Type 0) → may ≡ Ok x → Does x → If may old new reply Does
@@ -24,6 +27,29 @@ pub handed_on : {T : Type 0} (gives : T → Reply) (result : Result T Fault) (fa
     → UnlessMemory old new (Failed fault) Does → UnlessMemory old new (reply_of gives result) Does
 handed_on gives (Ok x) fault old new Does h same = absurd h
 handed_on gives (Err f) fault old new Does h same = subst (λ (g : Fault). UnlessMemory old new (Failed g) Does) (sym h) same
+
+-- an accepted list that is applied as a whole
+pub applied_whole : (seat number : ℕ) (subject : Subject) (changes : List Change) (old new : WorldData) (count : ℕ) → old.state.version ≢ LAST → count ≤ most_features old → count ≡ length (after (old.state.version + 1) subject.office changes old.state.features)
+    → new ≡ without_transaction number (recorded seat (applied subject (old.state.version + 1) changes) old)
+    → Applies seat number subject changes old new (Ended (outcomes.Applied (old.state.version + 1)))
+applied_whole seat number subject changes old new count left few counted told =
+    let not_last : (old.state.version == LAST) ≡ false = grind (arith, nat_tests, left) in
+    let fits : nat_lt (most_features old) (length (after (old.state.version + 1) subject.office changes old.state.features)) ≡ false = rw (← counted) (grind (arith, nat_tests, few)) in
+    go _ _ not_last fits
+  where
+    go : (last over : Bool) → last ≡ false → over ≡ false
+        → MatchBool last ((new ≡ old) × (Ended (outcomes.Applied (old.state.version + 1)) ≡ Failed faults.Spent))
+        (MatchBool over ((new ≡ old) × (Ended (outcomes.Applied (old.state.version + 1)) ≡ Failed faults.StoreFull))
+        ((Ended (outcomes.Applied (old.state.version + 1)) ≡ Ended (outcomes.Applied (old.state.version + 1)))
+        × (new ≡ without_transaction number (recorded seat (applied subject (old.state.version + 1) changes) old))))
+    go true over e f = absurd cc
+    go false true e f = absurd cc
+    go false false e f = (refl, told)
+
+-- a store refuses a list that leaves no more features than may be for want of memory alone
+pub store_refused : (fault : StoreFault) (old new : WorldData) (Does : Type 0) → fault ≢ Full → new ≡ old → UnlessMemory old new (Failed (fault_of_store fault)) Does
+store_refused Full old new Does other same = absurd (other refl)
+store_refused (Memory refused) old new Does other same = same
 
 -- an accepted list that would leave too many features
 pub too_many : (seat number : ℕ) (subject : Subject) (changes : List Change) (old : WorldData) (count : ℕ) → old.state.version ≢ LAST → most_features old < count → count ≡ length (after (old.state.version + 1) subject.office changes old.state.features)

@@ -94,13 +94,6 @@ recorded seat deed w = record w {
   trail = w.trail ++ record { seat = seat; deed = deed } ∷ [];
 }
 
--- the list of changes that a deed tells of, of a list that was applied or turned away
-abbrev pub changes_in : DeedData → List Change
-changes_in (answered subject window ids versions) = []
-changes_in (applied subject version changes) = changes
-changes_in (turned_away subject changes refusal) = changes
-changes_in (governed edition decider) = []
-
 -- Searches.
 
 -- a world without the search of a number

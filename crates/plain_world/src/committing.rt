@@ -9,7 +9,7 @@ ghost use Rattle.judging.specs.Judging.{Judged, AreDistinct, IsFounded};
 ghost use Rattle.audit_trail.specs.Legal.{IsSeated};
 ghost use Rattle.audit_trail.specs.Records as deeds;
 ghost use Rattle.plain_world.specs.Answers.{denial_of};
-ghost use Rattle.plain_world.specs.Events.{Happens, Begin, Stage, Commit, Abort, Number, Done, Ended, reply_of, UnlessMemory, TurnsAway, Applies, changes_in, without_transaction};
+ghost use Rattle.plain_world.specs.Events.{Happens, Begin, Stage, Commit, Abort, Number, Done, Ended, reply_of, UnlessMemory, TurnsAway, Applies, without_transaction};
 ghost use Rattle.plain_world.specs.Staging.{staged_in};
 ghost use Rattle.plain_world.specs.States.{most_features};
 ghost use Rattle.feature_store.specs.declared.tables.TheConstants.{FEATURE_LIMIT};
@@ -25,6 +25,7 @@ use combining::Question;
 use decision::InForce;
 use features::{Action, Change, Name, Subject};
 use judging::{Judgement, Refusal, judge};
+use kept_shapes::ChangeList;
 use memory::{GrowVec, copied};
 use std::alloc::Allocator;
 
@@ -108,10 +109,11 @@ impl<A: Allocator + Copy> PlainWorld<A> {
         ensures { Happens (Commit seat number) self.old self.new (reply_of Ended result) }
     {
         let subject = self.may_commit(seat, number)?;
-        let changes = copied(self.alloc, staged_in(&self.transactions, number))?;
-        match judge(&self.in_force, &self.store, &subject, changes.as_slice()) {
+        let held = copied(self.alloc, staged_in(&self.transactions, number))?;
+        let changes = held.as_slice();
+        match judge(&self.in_force, &self.store, &subject, changes) {
             Judgement::Accepted => {
-                self.tell_kinds(subject.office, changes.as_slice());
+                self.tell_kinds(subject.office, changes);
                 self.apply(seat, number, subject, changes)
             }
             Judgement::Refused(refusal, question) => {
@@ -133,22 +135,23 @@ impl<A: Allocator + Copy> PlainWorld<A> {
         seat: u32,
         number: u64,
         subject: Subject,
-        changes: Vec<Change, A>,
+        changes: &[Change],
         refusal: &Refusal,
         question: &Option<Question>,
     ) -> Result<Outcome, Fault>
         requires seated { IsSeated seat self.old.seats subject }
-        requires judged { Judged self.old.state subject changes.items
+        requires judged { Judged self.old.state subject changes.now
             (judgements.Refused refusal.now question.now) }
         requires founded { IsFounded self.old.state.decider.document refusal.now.cause
             question.now }
         requires below { length self.old.trail < self.old.limits.records }
         ensures { UnlessMemory self.old self.new (reply_of Ended result)
-            (TurnsAway seat number subject changes.items
+            (TurnsAway seat number subject changes.now
             (judgements.Refused refusal.now question.now) self.old self.new
             (reply_of Ended result)) }
     {
-        let told = turned_away(seat, subject, changes, refusal);
+        let list = ChangeList::new(self.alloc, changes)?;
+        let told = turned_away(seat, subject, list, refusal);
         let entry = self.trail.prepare(told)?;
         let denial = denial_for(self.in_force.shared(), &refusal.cause, question)?;
         self.trail.put(entry);
@@ -162,27 +165,28 @@ impl<A: Allocator + Copy> PlainWorld<A> {
         seat: u32,
         number: u64,
         subject: Subject,
-        changes: Vec<Change, A>,
+        changes: &[Change],
     ) -> Result<Outcome, Fault>
         requires seated { IsSeated seat self.old.seats subject }
-        requires accepted { Judged self.old.state subject changes.items judgements.Accepted }
-        requires distinct { AreDistinct changes.items }
-        requires few { length changes.items ≤ CHANGE_LIMIT }
+        requires accepted { Judged self.old.state subject changes.now judgements.Accepted }
+        requires distinct { AreDistinct changes.now }
+        requires few { length changes.now ≤ CHANGE_LIMIT }
         requires below { length self.old.trail < self.old.limits.records }
         ensures { UnlessMemory self.old self.new (reply_of Ended result)
-            (Applies seat number subject changes.items self.old self.new (reply_of Ended result)) }
+            (Applies seat number subject changes.now self.old self.new (reply_of Ended result)) }
     {
         if self.version == u64::MAX {
             return Err(Fault::Spent);
         }
-        if self.store.len_after(changes.as_slice()) > self.most_features() {
+        if self.store.len_after(changes) > self.most_features() {
             return Err(Fault::StoreFull);
         }
         let version = self.version + 1;
         let office = subject.office;
-        let told = applied(seat, subject, version, changes);
+        let list = ChangeList::new(self.alloc, changes)?;
+        let told = applied(seat, subject, version, list);
         let entry = self.trail.prepare(told)?;
-        self.store.apply(version, office, changes_in(&entry))?;
+        self.store.apply(version, office, changes)?;
         self.version = version;
         self.trail.put(entry);
         end(&mut self.transactions, number);
@@ -205,11 +209,11 @@ fn tell_added(in_force: &mut InForce, office: Name, changes: &[Change])
 fn turned_away<A: Allocator>(
     seat: u32,
     subject: Subject,
-    changes: Vec<Change, A>,
+    changes: ChangeList<A>,
     refusal: &Refusal,
 ) -> Record<A>
     ensures { result
-        ≡ record { seat = seat; deed = deeds.turned_away subject changes.items refusal.now } }
+        ≡ record { seat = seat; deed = deeds.turned_away subject changes refusal.now } }
 {
     Record::new(
         seat,
@@ -226,10 +230,10 @@ fn applied<A: Allocator>(
     seat: u32,
     subject: Subject,
     version: u64,
-    changes: Vec<Change, A>,
+    changes: ChangeList<A>,
 ) -> Record<A>
     ensures { result
-        ≡ record { seat = seat; deed = deeds.applied subject version changes.items } }
+        ≡ record { seat = seat; deed = deeds.applied subject version changes } }
 {
     Record::new(
         seat,
@@ -239,16 +243,4 @@ fn applied<A: Allocator>(
             changes,
         },
     )
-}
-
-/// The list that a record tells of; none where it is not of a list.
-fn changes_in<A: Allocator>(entry: &Record<A>) -> &[Change]
-    ensures { result.now ≡ changes_in entry.now.deed }
-{
-    match entry.deed() {
-        Deed::Applied { changes, .. } => changes.as_slice(),
-        Deed::Refused { changes, .. } => changes.as_slice(),
-        Deed::Answered { .. } => &[],
-        Deed::Governed { .. } => &[],
-    }
 }

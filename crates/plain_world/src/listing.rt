@@ -82,8 +82,8 @@ pub(crate) fn listed<A: Allocator>(
     let mut rows = Vec::new(alloc);
     for id in ids {
         if let Some(feature) = lookup.get(*id, meter) {
-            if shows(reading, &prepared, feature)? {
-                rows.try_push(*feature)?;
+            if shows(reading, &prepared, &feature)? {
+                rows.try_push(feature)?;
             }
         }
     }

@@ -156,7 +156,7 @@ impl<A: Allocator> PlainWorld<A> {
         ensures { result ≡ feature_with id self.now.state.features }
     {
         let mut meter = Meter::new();
-        self.store.get(id, &mut meter).copied()
+        self.store.get(id, &mut meter)
     }
 
     /// How many seats were given: `SEAT_LIMIT` at most.

@@ -122,6 +122,18 @@ impl Shape {
         }
         of_ring(&listed[..listed.len() - 1])
     }
+
+    /// The shape with these corners, which are in canonical order, as `corners` has them.
+    pub fn of_corners(corners: &[Point]) -> Shape
+        requires { IsCanonical corners.now }
+        ensures { result ≡ corners.now }
+    {
+        let places = places_of(corners);
+        Shape {
+            places,
+            count: corners.len() as u8,
+        }
+    }
 }
 
 /// The polygon of a ring without its closing point.

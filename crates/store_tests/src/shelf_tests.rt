@@ -3,6 +3,7 @@ use audit_trail::{Deed, Record, Trail};
 use decision::Decider;
 use features::{Change, Name, Subject, Subjects};
 use keepers::Keeper;
+use kept_shapes::ChangeList;
 use plane::{Point, Shape};
 use policy_documents::Document;
 use policy_text::read_document;
@@ -75,6 +76,13 @@ fn editor(rt: &impl Abort) -> Subject {
     }
 }
 
+/// The changes as a record keeps them.
+fn kept(rt: &impl Abort, heap: Global, changes: &[Change]) -> ChangeList<Global> {
+    let list = ChangeList::new(heap, changes);
+    assert!(rt; list.is_ok());
+    list.unwrap()
+}
+
 /// A group of one list that adds one feature.
 fn addition(rt: &impl Abort, heap: Global, version: u64, id: u64) -> Result<Records, AllocError> {
     let shape = Shape::point(Point { x: 3, y: 4 });
@@ -87,7 +95,7 @@ fn addition(rt: &impl Abort, heap: Global, version: u64, id: u64) -> Result<Reco
     let deed = Deed::Applied {
         subject: editor(rt),
         version,
-        changes: Vec::from_slice(heap, &[change])?,
+        changes: kept(rt, heap, &[change]),
     };
     let mut records = Vec::new(heap);
     records.push(Arc::new(heap, Record::new(1, deed))?)?;

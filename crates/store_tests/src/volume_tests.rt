@@ -4,6 +4,7 @@ use crate::parts::{
 };
 use audit_trail::{Deed, Record};
 use features::{Change, Feature};
+use kept_shapes::ChangeList;
 use sqlite_trees::memory::MemStore;
 use std::alloc::{AllocError, Global};
 use std::process::Abort;
@@ -21,6 +22,13 @@ const ENDS: [u64; 4] = [
 
 type Records = Vec<Arc<Record<Global>, Global>>;
 
+/// The changes as a record keeps them.
+fn kept(rt: &impl Abort, heap: Global, changes: &[Change]) -> ChangeList<Global> {
+    let list = ChangeList::new(heap, changes);
+    assert!(rt; list.is_ok());
+    list.unwrap()
+}
+
 /// A group of one list of changes, applied as this version for office north.
 fn list(
     rt: &impl Abort,
@@ -31,7 +39,7 @@ fn list(
     let deed = Deed::Applied {
         subject: editor(rt, "north"),
         version,
-        changes: Vec::from_slice(heap, changes)?,
+        changes: kept(rt, heap, changes),
     };
     let mut records = Vec::new(heap);
     records.push(Arc::new(heap, Record::new(1, deed))?)?;
@@ -205,7 +213,7 @@ fn draw_list(
     Ok(Deed::Applied {
         subject: editor(rt, "north"),
         version,
-        changes,
+        changes: kept(rt, heap, changes.as_slice()),
     })
 }
 

@@ -105,7 +105,10 @@ fn put_deed<S: Store, A: Allocator>(
             subject,
             version,
             changes,
-        } => put_list(store, buffers, tables, subject, *version, changes),
+        } => {
+            let listed = changes.copied(heap)?;
+            put_list(store, buffers, tables, subject, *version, listed.as_slice())
+        }
         Deed::Refused { .. } => Ok(()),
         Deed::Governed { edition, decider } => put_document(
             store,

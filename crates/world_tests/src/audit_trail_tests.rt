@@ -5,6 +5,7 @@ use decision::{Decider, InForce};
 use feature_store::Store;
 use features::{Action, Change, Name, Subject};
 use judging::{Cause, Judgement, Refusal, judge};
+use kept_shapes::ChangeList;
 use std::alloc::{AllocError, Global};
 use std::process::Abort;
 use std::sync::Arc;
@@ -42,6 +43,13 @@ fn in_force(rt: &impl Abort, heap: Global, text: &str) -> InForce {
     in_force
 }
 
+/// The changes as a record keeps them.
+fn kept(rt: &impl Abort, heap: Global, changes: &[Change]) -> ChangeList<Global> {
+    let list = ChangeList::new(heap, changes);
+    assert!(rt; list.is_ok());
+    list.unwrap()
+}
+
 /// Checks the line of a deed of seat 7, recorded as the first of a trail.
 fn line(rt: &impl Abort, heap: Global, deed: Deed<Global>, expected: &str) {
     let mut trail = Trail::new(heap);
@@ -64,7 +72,7 @@ fn printed_forms(rt: HostRuntime) -> Result<(), Fail> {
     let applied = Deed::Applied {
         subject: editor(&rt, "north"),
         version: 1,
-        changes: Vec::from_slice(heap, &[mast])?,
+        changes: kept(&rt, heap, &[mast]),
     };
     let answered = Deed::Answered {
         subject: editor(&rt, "north"),
@@ -103,7 +111,7 @@ fn refused(rt: &impl Abort, heap: Global, cause: Cause) -> Result<Deed<Global>, 
     let delete = Change::Delete { id: 9, version: 12 };
     Ok(Deed::Refused {
         subject: editor(rt, "south"),
-        changes: Vec::from_slice(heap, &[reshape, delete])?,
+        changes: kept(rt, heap, &[reshape, delete]),
         refusal: Refusal { change: 2, cause },
     })
 }

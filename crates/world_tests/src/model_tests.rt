@@ -10,6 +10,7 @@ use crate::parts::{document, name, point, square};
 use audit_trail::{Deed, Record};
 use feature_store::Meter;
 use features::{Change, Feature, Name, Subject, Subjects};
+use kept_shapes::ChangeList;
 use policy_text::Document;
 use std::alloc::Global;
 use std::process::Abort;
@@ -618,13 +619,15 @@ fn make_all(rt: &impl Abort, plain: &mut PlainWorld, office: u32, version: u64, 
     }
 }
 
-/// The world's changes for edits.
-fn changes(rt: &impl Abort, heap: Global, edits: &[Edit]) -> Vec<Change> {
+/// The world's changes for edits, as a record keeps them.
+fn changes(rt: &impl Abort, heap: Global, edits: &[Edit]) -> ChangeList<Global> {
     let mut changes = Vec::new(heap);
     for edit in edits {
         assert!(rt; changes.push(change(rt, edit)).is_ok());
     }
-    changes
+    let list = ChangeList::new(heap, changes.as_slice());
+    assert!(rt; list.is_ok());
+    list.unwrap()
 }
 
 /// The deed that records an applied list.

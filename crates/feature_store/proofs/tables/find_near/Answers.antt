@@ -1,4 +1,4 @@
-use Rattle.std.proofs.Common.{sym}
+use Rattle.std.proofs.Common.{Some, ap, sym, ◌∙◌}
 use Rattle.feature_store.proofs.RowLemmas.{absent_at_gap}
 use Rattle.feature_store.proofs.TableLemmas.{rising, gap_row, row_found}
 use Rattle.feature_store.proofs.tables.find_near.Goals as goal
@@ -7,7 +7,7 @@ pub place_near-requires : goal.place_near-requires
 place_near-requires g c = rising _ _ _ c.requires
 
 pub returns-in-Some : goal.returns-in-Some
-returns-in-Some g c = row_found _ _ _ c.requires _ _ _ c.in-Some.ensures.found.at c.in-Some.ensures.found.place_is _ c.index.ensures
+returns-in-Some g c = ap Some c.feature.ensures ∙ row_found _ _ _ c.requires _ _ _ c.in-Some.ensures.found.at c.in-Some.ensures.found.place_is _ c.index.ensures
 
 pub returns-in-None : goal.returns-in-None
 returns-in-None g c = sym (absent_at_gap _ _ _ (gap_row _ _ _ c.requires _ _ c.in-None.ensures.missing.gap))

@@ -13,9 +13,9 @@ insert-requires-clause-absent g c = λ i is. (let found = found_at _ _ i blank c
 
 pub returns-clause-rows : goal.returns-clause-rows
 returns-clause-rows g c =
-    rw c.push_reserved.ensures.items (rows_inserted _ _ c.requires.sound c.args.row _ _ refl (c.len-place.ensures ∙ c.args.table.now.features.ok.0) c.insert.ensures.inserted)
+    rw c.push_reserved.ensures.items (rows_inserted _ _ c.requires.sound c.args.row _ _ refl (c.len-place.ensures ∙ c.args.table.now.features.ok.0) (rw c.id-id.ensures at c.insert.ensures.inserted))
 
 pub returns-clause-sound : goal.returns-clause-sound
 returns-clause-sound g c =
-    rw c.push_reserved.ensures.items (tied_inserted _ _ c.requires.sound c.args.row _ _ refl (c.len-place.ensures ∙ c.args.table.now.features.ok.0) c.insert.ensures.inserted
+    rw c.push_reserved.ensures.items (tied_inserted _ _ c.requires.sound c.args.row _ _ refl (c.len-place.ensures ∙ c.args.table.now.features.ok.0) (rw c.id-id.ensures at c.insert.ensures.inserted)
     c.requires.absent (omega (arith, c.requires.room.numbers, c.args.table.now.features.ok.0)))

@@ -10,7 +10,7 @@ pub unreachable-requires : goal.unreachable-requires
 unreachable-requires g c = not_both _ (absent_at_gap _ _ _ (gap_row _ _ _ c.requires.sound _ _ c.in-None.ensures.missing.gap)) c.requires.present
 
 pub returns-clause-rows : goal.returns-clause-rows
-returns-clause-rows g c = rows_rewritten _ _ c.requires.sound _ _ _ _ c.in-Some.ensures.found _ c.index-row.ensures
+returns-clause-rows g c = rw c.reshape.ensures (rows_rewritten _ _ c.requires.sound _ _ _ _ c.in-Some.ensures.found _ c.index_mut.ensures.value)
 
 pub returns-clause-sound : goal.returns-clause-sound
-returns-clause-sound g c = tied_rewritten _ _ c.requires.sound _ _ _ _ c.in-Some.ensures.found _ c.index-row.ensures
+returns-clause-sound g c = rw c.reshape.ensures (tied_rewritten _ _ c.requires.sound _ _ _ _ c.in-Some.ensures.found _ c.index_mut.ensures.value)

@@ -17,13 +17,13 @@ pub returns-then-place-last-clause-rows : goal.returns-then-place-last-clause-ro
 returns-then-place-last-clause-rows g c =
     rows_less_moved _ _ c.requires.sound _ _ _ c.in-Some.ensures.removed c.swap_remove.new.self.items _ _ c.args.table.now.features.ok.0
     (c.len-last.ensures ∙ c.swap_remove.new.self.ok.0) (omega (arith, c.swap_remove.ensures.len, c.swap_remove.new.self.ok.0, c.args.table.now.features.ok.0)) c.swap_remove.ensures.by_index
-    c.if-place-last.true _ c.index.ensures _ c.renumber.ensures.ids c.renumber.ensures.places
+    c.if-place-last.true _ c.index.ensures _ c.renumber.ensures.ids (rw c.id-moved.ensures at c.renumber.ensures.places)
 
 pub returns-then-place-last-clause-sound : goal.returns-then-place-last-clause-sound
 returns-then-place-last-clause-sound g c =
     tied_less_moved _ _ c.requires.sound _ _ _ c.in-Some.ensures.removed c.swap_remove.new.self.items _ _ c.args.table.now.features.ok.0
     (c.len-last.ensures ∙ c.swap_remove.new.self.ok.0) (omega (arith, c.swap_remove.ensures.len, c.swap_remove.new.self.ok.0, c.args.table.now.features.ok.0)) c.swap_remove.ensures.by_index
-    c.if-place-last.true _ c.index.ensures _ c.renumber.ensures.ids c.renumber.ensures.places
+    c.if-place-last.true _ c.index.ensures _ c.renumber.ensures.ids (rw c.id-moved.ensures at c.renumber.ensures.places)
 
 pub returns-else-place-last-clause-rows : goal.returns-else-place-last-clause-rows
 returns-else-place-last-clause-rows g c =

@@ -27,11 +27,11 @@ loop-id-preserved g c =
       ];
       told = elim c.match-get.branch [
         | in-Some+in_ok-shows+then-branch+in_ok-try_push w ↦ (
-            let there = subst (λ (xs : List Feature). Lists document subject window all xs front) (looks_up features id left (Some w.in-Some.feature.now) (sym (rw c.loop-id.invariant.looked at w.in-Some.ensures.value))) told in
-            rw (w.rows-is, w.in_ok-try_push.ensures.items) (lists_yes document subject window all (looked_up features left) front w.in-Some.feature.now there ((rw (c.loop-id.invariant.same, c.new-prepared.ensures) at w.in_ok-shows.ensures.shown).0 w.if-branch.true)))
+            let there = subst (λ (xs : List Feature). Lists document subject window all xs front) (looks_up features id left (Some w.in-Some.feature) (sym (rw c.loop-id.invariant.looked at w.in-Some.ensures.value))) told in
+            rw (w.rows-is, w.in_ok-try_push.ensures.items) (lists_yes document subject window all (looked_up features left) front w.in-Some.feature there ((rw (c.loop-id.invariant.same, c.new-prepared.ensures) at w.in_ok-shows.ensures.shown).0 w.if-branch.true)))
         | in-Some+in_ok-shows+else-branch w ↦ (
-            let there = subst (λ (xs : List Feature). Lists document subject window all xs front) (looks_up features id left (Some w.in-Some.feature.now) (sym (rw c.loop-id.invariant.looked at w.in-Some.ensures.value))) told in
-            rw w.rows-is (lists_no document subject window all (looked_up features left) front w.in-Some.feature.now there (λ shown. (let met = (rw (c.loop-id.invariant.same, c.new-prepared.ensures) at w.in_ok-shows.ensures.shown).1 shown in cc (met, w.if-branch.false)))))
+            let there = subst (λ (xs : List Feature). Lists document subject window all xs front) (looks_up features id left (Some w.in-Some.feature) (sym (rw c.loop-id.invariant.looked at w.in-Some.ensures.value))) told in
+            rw w.rows-is (lists_no document subject window all (looked_up features left) front w.in-Some.feature there (λ shown. (let met = (rw (c.loop-id.invariant.same, c.new-prepared.ensures) at w.in_ok-shows.ensures.shown).1 shown in cc (met, w.if-branch.false)))))
         | in_default w ↦ (
             let there = subst (λ (xs : List Feature). Lists document subject window all xs front) (looks_up features id left None (sym (rw c.loop-id.invariant.looked at w.in_default.ensures.value))) told in
             rw w.rows-is there)

@@ -17,7 +17,7 @@ pub returns-in_err-make_room-clause-full : goal.returns-in_err-make_room-clause-
 returns-in_err-make_room-clause-full g c =
     let len = c.len.ensures ∙ c.self.inside.table.features.ok.0 ∙ sym c.self.invariant.0.one_each ∙ sym (length-map (places_in c.self.inside.table.entries.items) (feature_at c.self.inside.table.features.items)) ∙ ap length c.self.view_is in
     let fits = fit _ c.args.version c.args.office _ _ _ _ _ c.requires.can len c.count_additions-added.ensures.value c.count_deletions-deleted.ensures.value c.if-len-added.false in
-    (λ same. absurd (not_full _ _ c.from_residual.ensures.1 same), λ more. absurd (omega (arith, more, fits)))
+    (λ same. absurd (not_full _ _ c.from_residual-in_err-make_room.ensures.1 same), λ more. absurd (omega (arith, more, fits)))
 
 pub invariant_of-self-2 : goal.invariant_of-self-2
 invariant_of-self-2 g c =
@@ -30,3 +30,9 @@ returns-clause-full g c =
     let len = c.len.ensures ∙ c.self.inside.table.features.ok.0 ∙ sym c.self.invariant.0.one_each ∙ sym (length-map (places_in c.self.inside.table.entries.items) (feature_at c.self.inside.table.features.items)) ∙ ap length c.self.view_is in
     let fits = fit _ c.args.version c.args.office _ _ _ _ _ c.requires.can len c.count_additions-added.ensures.value c.count_deletions-deleted.ensures.value c.if-len-added.false in
     (λ same. absurd cc, λ more. absurd (omega (arith, more, fits)))
+
+pub returns-in_err-rings-clause-full : goal.returns-in_err-rings-clause-full
+returns-in_err-rings-clause-full g c =
+    let len = c.len.ensures ∙ c.self.inside.table.features.ok.0 ∙ sym c.self.invariant.0.one_each ∙ sym (length-map (places_in c.self.inside.table.entries.items) (feature_at c.self.inside.table.features.items)) ∙ ap length c.self.view_is in
+    let fits = fit _ c.args.version c.args.office _ _ _ _ _ c.requires.can len c.count_additions-added.ensures.value c.count_deletions-deleted.ensures.value c.if-len-added.false in
+    (λ same. absurd (not_full _ _ c.from_residual.ensures.1 same), λ more. absurd (omega (arith, more, fits)))

@@ -24,10 +24,10 @@ invariant_of-self-2 g c =
     let seated = rw (← c.self.view_is) at c.requires.seated in
     let judged = rw (← c.self.view_is) at c.requires.judged in
     let below = rw (← c.self.view_is) at c.requires.below in
-    rw (c.put.ensures.records, c.in_ok-entry.ensures.records, c.in_ok-entry.ensures.entry, c.turned_away-told.ensures)
+    rw (c.put.ensures.records, c.in_ok-entry.ensures.records, c.in_ok-entry.ensures.entry, c.turned_away-told.ensures, c.in_ok-list.ensures)
     (keeps_added _ _ _ _ _ _ c.self.invariant below (seated, (c.args.question.now, judged)))
 
 pub returns : goal.returns
 returns g c =
-    rw (← c.self.view_is, c.put.ensures.records, c.in_ok-entry.ensures.records, c.in_ok-entry.ensures.entry, c.turned_away-told.ensures, c.put.ensures.first, c.in_ok-entry.ensures.first, c.end.ensures)
+    rw (← c.self.view_is, c.put.ensures.records, c.in_ok-entry.ensures.records, c.in_ok-entry.ensures.entry, c.turned_away-told.ensures, c.in_ok-list.ensures, c.put.ensures.first, c.in_ok-entry.ensures.first, c.end.ensures)
     (ap (λ (d : Option DenialData). Ended (outcomes.Refused c.args.refusal.now d)) (rw (c.shared.ensures) at c.in_ok-denial.ensures), refl)
