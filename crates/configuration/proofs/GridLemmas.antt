@@ -9,12 +9,10 @@ use Rattle.grid.specs.declared.grids.TheConstants.{MOST_DECIMALS}
 use Rattle.features.specs.declared.actors.Subject.{Subject}
 use Rattle.policy_documents.specs.Documents.{DocumentData}
 use Rattle.serde_json.specs.Data.{Data, Items}
-use Rattle.configuration.specs.ConfigFaults.{Fails}
 use Rattle.configuration.specs.Configs.{GridData, config_from, grid_at, grid_data, grid_from, grid_member, grid_path, of_form, of_steps, policies_in, subjects_in, taken_over, value_of}
-use Rattle.configuration.specs.declared.config_faults.ConfigFault.{ConfigFault}
+use Rattle.configuration.specs.declared.config_faults.ConfigFault.TheVariants as faults
 use Rattle.configuration.specs.declared.paths.ConfigPath.{ConfigPath}
 use Rattle.configuration.specs.declared.paths.MemberName.TheVariants as member_names
-use Rattle.configuration.proofs.ConfigLemmas.{Fails-bind}
 
 at_most : (n m : ℕ) → n ≤ m → nat_le n m ≡ true
 at_most n m fits = grind arith
@@ -49,8 +47,7 @@ unfolding grid_from
 too_many x y decimals between more = rw (beyond decimals MOST_DECIMALS more) refl
 
 -- a fault of the grid, behind all that was read before it
-pub grid-fails : (items : Items) (policies d : Data) (grid : Option Data) (given subjects : List Subject) (document : DocumentData) (e : ConfigFault) → subjects_in items ≡ Ok given → taken_over given ≡ Ok subjects → policies_in policies ≡ Ok document →
-    grid ≡ value_of member_names.Grid d → Fails e (of_form (grid_member grid)) → Fails e (config_from items policies d)
+pub grid-fails : (items : Items) (policies d : Data) (grid : Option Data) (given subjects : List Subject) (document : DocumentData) (path : ConfigPath) → of_form (subjects_in items) ≡ Ok given → taken_over given ≡ Ok subjects → policies_in policies ≡ Ok document →
+    grid ≡ value_of member_names.Grid d → grid_member grid ≡ Err path → config_from items policies d ≡ Err (faults.Form path)
 unfolding config_from
-grid-fails items policies d grid given subjects document e each taken read under h =
-    rw (each, taken, read, ← under) (Fails-bind e (of_form (grid_member grid)) _ h)
+grid-fails items policies d grid given subjects document path each taken read under h = rw (each, taken, read, ← under, h) refl

@@ -12,7 +12,7 @@ use Rattle.configuration.specs.declared.paths.MemberName.TheVariants as member_n
 use Rattle.configuration.proofs.ConfigLemmas.{Fails-bind, Fails-form, form_of}
 
 -- a fault of what is said of HTTP, behind all else that was read
-pub web-fails : (items : Items) (policies d : Data) (under : Option Data) (given subjects : List Subject) (document : DocumentData) (grid : Option GridData) (e : ConfigFault) → subjects_in items ≡ Ok given → taken_over given ≡ Ok subjects → policies_in policies ≡ Ok document →
+pub web-fails : (items : Items) (policies d : Data) (under : Option Data) (given subjects : List Subject) (document : DocumentData) (grid : Option GridData) (e : ConfigFault) → of_form (subjects_in items) ≡ Ok given → taken_over given ≡ Ok subjects → policies_in policies ≡ Ok document →
     under ≡ value_of member_names.Grid d → grid_member under ≡ Ok grid → Fails e (of_form (web_in subjects d)) → Fails e (config_from items policies d)
 unfolding config_from
 web-fails items policies d under given subjects document grid e each taken read is found h =
