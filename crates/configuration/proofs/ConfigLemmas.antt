@@ -1,8 +1,9 @@
 -- Reading configurations: how faults are passed on, and subjects one after another.
-use Rattle.std.proofs.Common.{arith, ◌≡◌, ℕ, ◌+◌, ◌<◌, ◌≤◌, true, false, Bool, List, [], ◌∷◌, ◌++◌, length, get_or, drop, refl, sym, ap, ◌∙◌, subst, append_assoc, add-one, drop-cons, Result, Ok, Err, Option, Some, None, IsErrAnd, IsUtf8}
+use Rattle.std.proofs.Common.{arith, ◌≡◌, ℕ, ◌+◌, ◌<◌, ◌≤◌, nat_le, true, false, Bool, List, [], ◌∷◌, ◌++◌, length, get_or, drop, take, if◌then◌else◌, refl, sym, ap, ◌∙◌, subst, add-one, drop-cons, Result, Ok, Err, Option, Some, None, IsErrAnd, IsUtf8}
 use Rattle.std.specs.Option.{ok_or}
-use Rattle.std.specs.Str.{is_utf8}
-use Rattle.std.proofs.lemmas.List.{append-nil, drop_all}
+use Rattle.std.specs.List.{list_any}
+use Rattle.std.specs.Str.{bytes_eq, is_utf8}
+use Rattle.std.proofs.lemmas.List.{drop_all, length-take-le, take_all, take_more}
 use Rattle.std.proofs.lemmas.Str.{IsUtf8-from_is_utf8, is_utf8-from_IsUtf8}
 use Rattle.serde_json.specs.Data.{Data}
 use Rattle.serde_json.specs.Read.{read}
@@ -17,22 +18,23 @@ use Rattle.policy_text.specs.Reading.{Fails as FailsText, document_in}
 use Rattle.policy_text.specs.declared.faults.TextFault.{TextFault}
 use Rattle.policy_text.specs.declared.faults.TextFault.TheVariants as texts
 use Rattle.configuration.specs.ConfigFaults.{Fails, Gives, policies_fault, unread_fault}
-use Rattle.configuration.specs.Configs.{◌>>=◌, ConfigData, config_in, config_of, policies_in, subject_in, subjects_in}
+use Rattle.configuration.specs.Configs.{◌>>=◌, ConfigData, config_in, config_of, count_before_again, each, item_count, of_form, policies_in}
 use Rattle.configuration.specs.declared.config_faults.ConfigFault.{ConfigFault}
 use Rattle.configuration.specs.declared.config_faults.ConfigFault.TheVariants as faults
+use Rattle.configuration.specs.declared.paths.ConfigPath.{ConfigPath}
 
 pub Fails-bind : {X Y : Type 0} (e : ConfigFault) (r : Result X ConfigFault) (k : X → Result Y ConfigFault) → Fails e r → Fails e (r >>= k)
 Fails-bind (faults.Memory m) r k h = tt
 Fails-bind faults.NotJson r k h = ap (λ s. s >>= k) h
-Fails-bind faults.Form r k h = ap (λ s. s >>= k) h
-Fails-bind (faults.Subjects f) r k h = ap (λ s. s >>= k) h
+Fails-bind (faults.Form p) r k h = ap (λ s. s >>= k) h
+Fails-bind (faults.Subjects f p) r k h = ap (λ s. s >>= k) h
 Fails-bind (faults.Policies f) r k h = ap (λ s. s >>= k) h
 
 pub Fails-from : {X : Type 0} (e : ConfigFault) (r : Result X ConfigFault) → r ≡ Err e → Fails e r
 Fails-from (faults.Memory m) r h = tt
 Fails-from faults.NotJson r h = h
-Fails-from faults.Form r h = h
-Fails-from (faults.Subjects f) r h = h
+Fails-from (faults.Form p) r h = h
+Fails-from (faults.Subjects f p) r h = h
 Fails-from (faults.Policies f) r h = h
 
 -- a fault returned by `?` is the fault that occurred
@@ -53,41 +55,82 @@ policies-fail (texts.BadZone p n f) d h = rw h refl
 policies-fail (texts.TooDeep p) d h = rw h refl
 policies-fail (texts.TooMany p) d h = rw h refl
 
--- the items read so far, followed by those of the rest
-abbrev pub behind : List Subject → Result (List Subject) ConfigFault → Result (List Subject) ConfigFault
-behind done rest = rest >>= λ others. Ok (done ++ others)
+-- a chain of readings at paths, as a chain of readings
+form-bind : {X Y : Type 0} (r : Result X ConfigPath) (k : X → Result Y ConfigPath) → of_form (r >>= k) ≡ (of_form r >>= λ x. of_form (k x))
+form-bind (Ok x) k = refl
+form-bind (Err path) k = refl
 
--- the items from index i on
-abbrev pub left_at : ℕ → List Value → Result (List Subject) ConfigFault
-left_at i vs = subjects_in (items_view (drop i vs))
+-- a fault of the first step is one of the chain
+pub Fails-form : {X Y : Type 0} (e : ConfigFault) (r : Result X ConfigPath) (k : X → Result Y ConfigPath) → Fails e (of_form r) → Fails e (of_form (r >>= k))
+Fails-form e r k h = subst (Fails e) (sym (form-bind r k)) (Fails-bind e (of_form r) (λ x. of_form (k x)) h)
 
-behind-cons : (done : List Subject) (s : Subject) (r : Result (List Subject) ConfigFault) →
-    behind done (r >>= λ others. Ok (s ∷ others)) ≡ behind (done ++ s ∷ []) r
-behind-cons done s (Ok others) = ap Ok (sym (append_assoc done (s ∷ []) others))
-behind-cons done s (Err e) = refl
+pub form_of : {A : Type 0} (r : Result A ConfigPath) (x : A) → of_form r ≡ Ok x → r ≡ Ok x
+form_of (Ok y) x told = let same : y ≡ x = cc in ap Ok same
+form_of (Err path) x told = absurd cc
 
-left_at-cons : (i : ℕ) (vs : List Value) (v : Value) → i < length vs → v ≡ get_or vs i v →
-    left_at i vs ≡ (subject_in (view v) >>= λ first. left_at (i + 1) vs >>= λ others. Ok (first ∷ others))
-unfolding subjects_in
-left_at-cons i vs v in_range at =
-    ap (λ ws. subjects_in (items_view ws)) (drop-cons vs i v in_range) ∙ rw (← at, add-one) refl
+-- ---- items, one after another
 
--- an item was read
-pub left_at-more : (done : List Subject) (i : ℕ) (vs : List Value) (v : Value) (s : Subject) → i < length vs → v ≡ get_or vs i v →
-    subject_in (view v) ≡ Ok s → behind (done ++ s ∷ []) (left_at (i + 1) vs) ≡ behind done (left_at i vs)
-left_at-more done i vs v s in_range at told =
-    sym (ap (behind done) (left_at-cons i vs v in_range at ∙ rw told refl) ∙ behind-cons done s (left_at (i + 1) vs))
+module _ {X : Type 0} (read : List X → Data → Result X ConfigPath) where
+  -- what is read of the items from index i on, behind these
+  abbrev pub left_at : List X → ℕ → List Value → Result (List X) ConfigPath
+  left_at before i vs = each read before (items_view (drop i vs))
 
--- an item has a fault
-pub left_at-fails : (done : List Subject) (i : ℕ) (vs : List Value) (v : Value) (e : ConfigFault) → i < length vs → v ≡ get_or vs i v →
-    Fails e (subject_in (view v)) → Fails e (behind done (left_at i vs))
-left_at-fails done i vs v e in_range at told =
-    subst (λ r. Fails e (behind done r)) (sym (left_at-cons i vs v in_range at)) (Fails-bind e _ _ (Fails-bind e _ _ told))
+  left_at-cons : (before : List X) (i : ℕ) (vs : List Value) (v : Value) → i < length vs → v ≡ get_or vs i v →
+      left_at before i vs ≡ (read before (view v) >>= λ x. left_at (before ++ x ∷ []) (i + 1) vs)
+  unfolding each
+  left_at-cons before i vs v in_range at =
+      ap (λ ws. each read before (items_view ws)) (drop-cons vs i v in_range) ∙ rw (← at, add-one) refl
 
--- all was read
-pub left_at-end : (done : List Subject) (i : ℕ) (vs : List Value) → length vs ≤ i → behind done (left_at i vs) ≡ Ok done
-unfolding subjects_in
-left_at-end done i vs past = ap (λ ws. behind done (subjects_in (items_view ws))) (drop_all i vs past) ∙ ap Ok (append-nil done)
+  -- an item was read
+  pub left_at-more : (before : List X) (i : ℕ) (vs : List Value) (v : Value) (x : X) → i < length vs → v ≡ get_or vs i v →
+      read before (view v) ≡ Ok x → left_at (before ++ x ∷ []) (i + 1) vs ≡ left_at before i vs
+  left_at-more before i vs v x in_range at told = sym (left_at-cons before i vs v in_range at ∙ rw told refl)
+
+  -- an item has a fault
+  pub left_at-fails : (before : List X) (i : ℕ) (vs : List Value) (v : Value) (path : ConfigPath) → i < length vs → v ≡ get_or vs i v →
+      read before (view v) ≡ Err path → left_at before i vs ≡ Err path
+  left_at-fails before i vs v path in_range at told = left_at-cons before i vs v in_range at ∙ rw told refl
+
+  -- all was read
+  pub left_at-end : (before : List X) (i : ℕ) (vs : List Value) → length vs ≤ i → left_at before i vs ≡ Ok before
+  unfolding each
+  left_at-end before i vs past = ap (λ ws. each read before (items_view ws)) (drop_all i vs past)
+
+count_viewed : (vs : List Value) → item_count (items_view vs) ≡ length vs
+count_viewed [] = refl
+count_viewed (v ∷ vs) = grind (arith, count_viewed vs)
+
+-- an array has at most so many items, or more
+pub few : (vs : List Value) (most : ℕ) → length vs ≤ most → nat_le (item_count (items_view vs)) most ≡ true
+few vs most fits = rw (count_viewed vs) (grind arith)
+
+pub too_many : (vs : List Value) (most : ℕ) → most < length vs → nat_le (item_count (items_view vs)) most ≡ false
+too_many vs most more = rw (count_viewed vs) (grind arith)
+
+-- ---- the second name
+
+-- how many stand before it, where it does not stand before index i
+abbrev pub again_at : ℕ → List Subject → ℕ
+again_at i ss = count_before_again (take i ss) (drop i ss)
+
+again_at-cons : (i : ℕ) (ss : List Subject) (s : Subject) → i < length ss → s ≡ get_or ss i s →
+    again_at i ss ≡ (if list_any (λ other. bytes_eq other.name s.name) (take i ss) then length (take i ss) else again_at (i + 1) ss)
+unfolding count_before_again
+again_at-cons i ss s in_range at =
+    ap (count_before_again (take i ss)) (drop-cons ss i s in_range) ∙ rw (take_more ss i s in_range, ← at, add-one) refl
+
+-- it is at this index
+pub again_at-here : (i : ℕ) (ss : List Subject) (s : Subject) → i < length ss → s ≡ get_or ss i s → list_any (λ other. bytes_eq other.name s.name) (take i ss) ≡ true → again_at i ss ≡ i
+again_at-here i ss s in_range at test = again_at-cons i ss s in_range at ∙ rw test (length-take-le i ss (omega (arith, in_range)))
+
+-- it is behind this index
+pub again_at-more : (i : ℕ) (ss : List Subject) (s : Subject) → i < length ss → s ≡ get_or ss i s → list_any (λ other. bytes_eq other.name s.name) (take i ss) ≡ false → again_at (i + 1) ss ≡ again_at i ss
+again_at-more i ss s in_range at test = sym (again_at-cons i ss s in_range at ∙ rw test refl)
+
+-- there is none
+pub again_at-end : (i : ℕ) (ss : List Subject) → length ss ≤ i → again_at i ss ≡ length ss
+unfolding count_before_again
+again_at-end i ss past = rw (drop_all i ss past, take_all i ss past) refl
 
 abbrev of_read : Option Data → Result ConfigData ConfigFault
 of_read o = ok_or o faults.NotJson >>= config_in

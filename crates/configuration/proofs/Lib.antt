@@ -4,4 +4,3 @@ pub mod PermitLemmas
 pub mod SpellingLaws
 pub mod GridLemmas
 pub mod WebLemmas
-pub mod KeyLemmas

@@ -1,8 +1,6 @@
 -- What is told of a configuration.
 use Rattle.std.specs.Prelude.{◌≡◌, ◌≤◌, ◌-ℤ◌, ◌&&◌, not, pos, ℕ, Bool, List, [], ◌++◌, codes, length, nat_eq, if◌then◌else◌, is_none, Option, None, Some, IfSome, option_map, Result, Ok, Err}
 use Rattle.std.specs.Fmt.{decimal}
-use Rattle.serde_json.specs.Data.{Data}
-use Rattle.serde_json.specs.Read.{read}
 use Rattle.grid.specs.Printing.{coordinate_text, steps_text}
 use Rattle.grid.specs.declared.grids.Axis.{Axis}
 use Rattle.grid.specs.declared.grids.Axis.TheVariants.{X, Y}
@@ -11,7 +9,7 @@ use Rattle.plane.specs.declared.point.TheConstants.{LIMIT}
 use Rattle.configuration.specs.ConfigFaults.{Fails, config_code_of}
 use Rattle.configuration.specs.ConfigFiles.{IsUnread}
 use Rattle.configuration.specs.Configs.{ConfigData, config_of, grid_data, web_data}
-use Rattle.configuration.specs.Places.{LeadsTo, place_text}
+use Rattle.configuration.specs.Paths.{path_text}
 use Rattle.configuration.specs.Summaries.{summary_of, summary_text}
 use Rattle.configuration.specs.Web.{WebData}
 use Rattle.configuration.specs.declared.checking.Checked.{Checked}
@@ -20,17 +18,15 @@ use Rattle.configuration.specs.declared.config_faults.ConfigFault.{ConfigFault}
 use Rattle.configuration.specs.declared.config_faults.ConfigFault.TheVariants.{NotJson, Form, Subjects, Policies, Memory}
 use Rattle.configuration.specs.declared.files.FileFault.{FileFault}
 use Rattle.configuration.specs.declared.files.TheConstants.{CONFIG_LIMIT}
-use Rattle.configuration.specs.declared.places.Place.{Place}
-use Rattle.configuration.specs.declared.places.PathPart.{PathPart}
+use Rattle.configuration.specs.declared.paths.ConfigPath.{ConfigPath}
 use Rattle.configuration.specs.declared.summaries.Summary.{Summary}
+use Rattle.policy_text.specs.FaultPaths.{path_of}
+use Rattle.policy_text.specs.Pointers.{path_text as document_path_text}
 use Rattle.policy_text.specs.declared.faults.TextFault.{TextFault}
+use Rattle.policy_text.specs.declared.paths.PathPart.{PathPart}
 use Rattle.policy_text.specs.declared.faults.TextFault.TheVariants as texts
 use Rattle.wkt.specs.declared.fault.WktFault.{WktFault}
 use Rattle.wkt.specs.declared.fault.WktFault.TheVariants as shapes
-
--- the text is JSON, and the parts lead to the value at fault
-abbrev pub IsPlaceOf : ConfigFault → List ℕ → List PathPart → Type 0
-IsPlaceOf fault text place = (value : Data) × (read text ≡ Some value) × LeadsTo fault place value
 
 -- the text is read as a configuration, which has this
 abbrev pub IsRight : Summary → Option Grid → WebData → List ℕ → Type 0
@@ -38,16 +34,13 @@ IsRight summary grid web text = (config : ConfigData) × (config_of text ≡ Ok 
     × (summary ≡ summary_of config) × (option_map grid_data grid ≡ config.grid)
     × (web ≡ config.web)
 
--- this is the first fault of the text; the place, if one is told, is that of the fault
-abbrev pub IsWrong : ConfigFault → Option (List PathPart) → List ℕ → Type 0
-IsWrong fault place text = Fails fault (config_of text) × IfSome place (IsPlaceOf fault text)
-
-abbrev pub parts_of : {A : Type 0} → Option (Place A) → Option (List PathPart)
-parts_of place = option_map (λ place. place.parts.items) place
+-- this is the first fault of the text, with its path
+abbrev pub IsWrong : ConfigFault → List ℕ → Type 0
+IsWrong fault text = Fails fault (config_of text)
 
 abbrev pub IsCheckOf : {A : Type 0} → List ℕ → Checked A → Type 0
 IsCheckOf text (Right summary grid web) = IsRight summary grid (web_data web) text
-IsCheckOf text (Wrong fault place) = IsWrong fault (parts_of place) text
+IsCheckOf text (Wrong fault) = IsWrong fault text
 
 -- the byte, within the text of a zone's shape, at which that is at fault
 abbrev pub shape_byte : WktFault → Option ℕ
@@ -72,21 +65,32 @@ policy_byte (texts.Memory refused) = None
 abbrev pub byte_of : ConfigFault → Option ℕ
 byte_of (Policies fault) = policy_byte fault
 byte_of NotJson = None
-byte_of Form = None
-byte_of (Subjects fault) = None
+byte_of (Form path) = None
+byte_of (Subjects fault path) = None
 byte_of (Memory refused) = None
 
--- what is printed: of what is right a line for each number, and of a fault one line
-abbrev pub place_part : Option (List PathPart) → List ℕ
-place_part None = []
-place_part (Some place) = codes " at \"" ++ place_text place ++ codes "\""
+-- a place as it is printed, behind a code: the path of a fault, which of the policies begins there
+abbrev pub path_part : ConfigPath → List ℕ
+path_part path = codes " at \"" ++ (path_text path ++ codes "\"")
+
+abbrev pub policies_part : Option (List PathPart) → List ℕ
+policies_part None = []
+policies_part (Some path) = codes " at \"/policies" ++ (document_path_text path ++ codes "\"")
+
+abbrev pub place_part : ConfigFault → List ℕ
+place_part (Form path) = path_part path
+place_part (Subjects fault path) = path_part path
+place_part (Policies fault) = policies_part (path_of fault)
+place_part NotJson = []
+place_part (Memory refused) = []
 
 abbrev pub byte_part : Option ℕ → List ℕ
 byte_part None = []
 byte_part (Some byte) = codes ", byte " ++ decimal byte
 
-abbrev pub wrong_text : ConfigFault → Option (List PathPart) → List ℕ
-wrong_text fault place = config_code_of fault ++ place_part place ++ byte_part (byte_of fault)
+-- what is printed: of what is right a line for each number, and of a fault one line
+abbrev pub wrong_text : ConfigFault → List ℕ
+wrong_text fault = config_code_of fault ++ place_part fault ++ byte_part (byte_of fault)
     ++ codes "\n"
 
 -- the texts of a step of a grid, and of its least and its greatest coordinate on an axis
@@ -157,7 +161,7 @@ web_part web = if is_silent web then [] else web_text web
 abbrev pub checked_text : {A : Type 0} → Checked A → List ℕ
 checked_text (Right summary grid web) =
     summary_text summary ++ (grid_part grid ++ web_part (web_data web))
-checked_text (Wrong fault place) = wrong_text fault (parts_of place)
+checked_text (Wrong fault) = wrong_text fault
 
 -- what a file gives, by the bytes that it has left, if they are known
 abbrev pub CheckGives : {A : Type 0} → Result (Checked A) FileFault → Option (List ℕ) → Type 0

@@ -11,8 +11,8 @@ use Rattle.configuration.specs.declared.config_faults.ConfigFault.TheVariants.{N
 
 abbrev pub config_code_of : ConfigFault → List ℕ
 config_code_of NotJson = codes "B1"
-config_code_of Form = codes "B2"
-config_code_of (Subjects fault) = subjects_code fault
+config_code_of (Form path) = codes "B2"
+config_code_of (Subjects fault path) = subjects_code fault
 config_code_of (Policies fault) = code_of fault
 config_code_of (Memory refused) = codes "B5"
 
@@ -37,11 +37,16 @@ policies_fault (texts.TooMany path) = Policies (texts.TooMany path)
 abbrev pub Fails : {Y : Type 0} → ConfigFault → Result Y ConfigFault → Type 0
 Fails (Memory refused) reading = Unit {0}
 Fails NotJson reading = reading ≡ Err NotJson
-Fails Form reading = reading ≡ Err Form
-Fails (Subjects fault) reading = reading ≡ Err (Subjects fault)
+Fails (Form path) reading = reading ≡ Err (Form path)
+Fails (Subjects fault path) reading = reading ≡ Err (Subjects fault path)
 Fails (Policies fault) reading = reading ≡ Err (Policies fault)
 
 -- the function's result, seen through `view`, is what reading gives, or the error is `Memory`
 abbrev pub Gives : {X Y : Type 0} → (X → Y) → Result X ConfigFault → Result Y ConfigFault → Type 0
 Gives view (Ok x) reading = reading ≡ Ok (view x)
 Gives view (Err e) reading = Fails e reading
+
+-- the same for a function that allocates nothing
+abbrev pub Shows : {X Y E : Type 0} → (X → Y) → Result X E → Result Y E → Type 0
+Shows view (Ok x) reading = reading ≡ Ok (view x)
+Shows view (Err e) reading = reading ≡ Err e

@@ -10,8 +10,8 @@ use Rattle.features.specs.declared.actors.Subject.{Subject}
 use Rattle.features.specs.declared.actors.TheConstants.{SUBJECT_LIMIT}
 use Rattle.policy_text.specs.Reading.{document_in}
 use Rattle.configuration.specs.Configs.{ConfigData, config_keys, grid_member, has_only, subject_keys, value_of, web_in}
-use Rattle.configuration.specs.declared.fields.MemberName.{MemberName}
-use Rattle.configuration.specs.declared.fields.MemberName.TheVariants as member_names
+use Rattle.configuration.specs.declared.paths.MemberName.{MemberName}
+use Rattle.configuration.specs.declared.paths.MemberName.TheVariants as member_names
 
 -- an object whose keys are all listed
 pub record IsObject (listed : List MemberName) (d : Data) : Type 0 where

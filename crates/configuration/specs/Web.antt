@@ -1,6 +1,6 @@
 -- What a configuration may say of HTTP.
-use Rattle.std.specs.Prelude.{ℕ, ◌==◌, ◌&&◌, ◌||◌, not, Bool, true, false, List, [], ◌∷◌, codes, drop, length, take, nat_eq, nat_le, if◌then◌else◌, Option, Some, None, is_some, option_and_then, option_map}
-use Rattle.std.specs.List.{ends_with, list_all, list_any}
+use Rattle.std.specs.Prelude.{ℕ, ◌==◌, ◌&&◌, ◌||◌, not, Bool, true, false, List, codes, drop, length, take, nat_eq, nat_le, if◌then◌else◌, Option, Some, None, option_and_then, option_map}
+use Rattle.std.specs.List.{ends_with, list_all}
 use Rattle.std.specs.Option.{option_map_or}
 use Rattle.std.specs.Result.{result_ok}
 use Rattle.std.specs.Cmp.Lexicographic.{pointwise}
@@ -12,8 +12,7 @@ use Rattle.credentials.specs.declared.keys.Key.{Key}
 use Rattle.features.specs.Names.{name_of}
 use Rattle.features.specs.Subjects.{subject_named}
 use Rattle.features.specs.declared.actors.Subject.{Subject}
-use Rattle.configuration.specs.declared.keys.TheConstants.{KEY_LIMIT}
-use Rattle.configuration.specs.declared.web.TheConstants.{COLLECTION_LIMIT, PUBLIC_LIMIT}
+use Rattle.configuration.specs.declared.web.TheConstants.{PUBLIC_LIMIT}
 
 -- what is said of HTTP, as plain data
 pub record WebData : Type 0 where
@@ -62,20 +61,6 @@ is_beginning text =
 abbrev pub public_at : Data → Option (List ℕ)
 public_at d = option_and_then (λ text. if is_beginning text then Some text else None) (as_str d)
 
--- ---- collections
-
--- none of these names stands twice
-abbrev pub are_distinct : List (List ℕ) → Bool
-are_distinct [] = true
-are_distinct (name ∷ names) = not (list_any (λ other. pointwise nat_eq other name) names)
-    && are_distinct names
-
--- the names may be collections: they are not too many, none stands twice, and none is `features`,
--- the collection of all
-abbrev pub are_collections : List (List ℕ) → Bool
-are_collections names = nat_le (length names) COLLECTION_LIMIT
-    && not (list_any (λ name. bytes_eq name (codes "features")) names) && are_distinct names
-
 -- ---- keys
 
 -- the digest that a value spells: 32 bytes, as 64 hexadecimal digits
@@ -85,18 +70,3 @@ digest_at d = option_and_then (λ text. result_ok (decode_sized text 32)) (as_st
 -- the keys are one: of the same subject, with the same digest
 abbrev pub is_same_key : Key → Key → Bool
 is_same_key a b = bytes_eq a.subject b.subject && bytes_eq a.digest b.digest
-
--- none of these keys stands twice
-abbrev pub are_distinct_keys : List Key → Bool
-are_distinct_keys [] = true
-are_distinct_keys (key ∷ keys) = not (list_any (is_same_key key) keys) && are_distinct_keys keys
-
--- the key is one of these subjects'
-abbrev pub is_of_subjects : List Subject → Key → Bool
-is_of_subjects subjects key = is_some (subject_named key.subject subjects)
-
--- the keys may be those of these subjects: they are not too many, each is one of theirs, and none
--- stands twice
-abbrev pub are_keys : List Subject → List Key → Bool
-are_keys subjects keys = nat_le (length keys) KEY_LIMIT
-    && list_all (is_of_subjects subjects) keys && are_distinct_keys keys

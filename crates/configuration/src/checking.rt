@@ -1,18 +1,16 @@
 //! Looking at a configuration: what it has, or its first fault with its place.
 
-ghost use Rattle.std.specs.Prelude.{◌≡◌, IfOk, IfSome};
-ghost use Rattle.configuration.specs.Checking.{CheckGives, IsCheckOf, IsPlaceOf, byte_of, greatest_words, least_words, step_words};
+ghost use Rattle.std.specs.Prelude.{◌≡◌, IfOk};
+ghost use Rattle.configuration.specs.Checking.{CheckGives, IsCheckOf, byte_of, greatest_words, least_words, step_words};
 
 use crate::config_faults::ConfigFault;
 use crate::configs::read_config;
 use crate::files::{FileFault, whole_file};
-use crate::finding::place_of;
-use crate::places::Place;
 use crate::summaries::{Summary, summary_of};
 use crate::web::Web;
 use crate::web_lines::WebLine;
 use grid::{Axis, Grid, NumberText, reach, step_text};
-use memory::{JsonFault, NoMemory, json_value};
+use memory::NoMemory;
 use policy_text::TextFault;
 use std::alloc::{Allocator, Global};
 use std::fmt;
@@ -24,8 +22,8 @@ use wkt::WktFault;
 pub enum Checked<A: Allocator> {
     /// It is right, and has this, perhaps a grid, and this that is said of HTTP.
     Right(Summary, Option<Grid>, Web<A>),
-    /// It has this fault first, at this place, if that is known.
-    Wrong(ConfigFault, Option<Place<A>>),
+    /// It has this fault first.
+    Wrong(ConfigFault),
 }
 
 /// The byte, within the text of a zone's shape, at which that is at fault.
@@ -110,6 +108,32 @@ impl fmt::Display for GridPart {
     }
 }
 
+/// The place of a fault as it is told, if it has one.
+#[derive(Drop)]
+struct PlacePart<'a> {
+    fault: &'a ConfigFault,
+}
+
+impl fmt::Display for PlacePart<'_> {
+    ghost use Rattle.std.specs.Prelude.{Some};
+    ghost use Rattle.configuration.specs.Checking.{place_part};
+
+    ghost output = { λ part. Some (place_part part.fault.now) };
+
+    fn fmt<W: fmt::Write>(&self, f: &mut fmt::Formatter<W>) -> fmt::Result {
+        match self.fault {
+            ConfigFault::Form(path) | ConfigFault::Subjects(_, path) => {
+                write!(f, " at \"{path}\"")
+            }
+            ConfigFault::Policies(fault) => match fault.path() {
+                Some(path) => write!(f, " at \"/policies{path}\""),
+                None => Ok(()),
+            },
+            ConfigFault::NotJson | ConfigFault::Memory(_) => Ok(()),
+        }
+    }
+}
+
 impl<A: Allocator> fmt::Display for Checked<A> {
     ghost use Rattle.std.specs.Prelude.{Some};
     ghost use Rattle.configuration.specs.Checking.{checked_text};
@@ -126,34 +150,15 @@ impl<A: Allocator> fmt::Display for Checked<A> {
                 fmt::Display::fmt(&GridPart { grid: *grid }, f)?;
                 fmt::Display::fmt(&WebLine { web }, f)
             }
-            Checked::Wrong(fault, place) => {
+            Checked::Wrong(fault) => {
                 f.write_str(fault.code())?;
-                if let Some(place) = place {
-                    write!(f, " at \"{place}\"")?;
-                }
+                fmt::Display::fmt(&PlacePart { fault }, f)?;
                 if let Some(byte) = byte_of(fault) {
                     write!(f, ", byte {byte}")?;
                 }
                 f.write_str("\n")
             }
         }
-    }
-}
-
-/// The place of a fault of a text, if it has one. The text is read once more as a JSON value.
-fn place_in<A: Allocator>(
-    alloc: A,
-    heap: Global,
-    fault: &ConfigFault,
-    text: &[u8],
-) -> Result<Option<Place<A>>, NoMemory>
-    ensures { IfOk result
-        (λ found. IfSome found (λ place. IsPlaceOf fault.now text.now place.parts.items)) }
-{
-    match json_value(heap, text) {
-        Ok(value) => place_of(alloc, fault, &value),
-        Err(JsonFault::Text(_)) => Ok(None),
-        Err(JsonFault::Memory(no_memory)) => Err(no_memory),
     }
 }
 
@@ -172,10 +177,7 @@ pub fn check_config<A: Allocator + Copy>(
             Ok(Checked::Right(summary, config.grid, config.web))
         }
         Err(ConfigFault::Memory(no_memory)) => Err(no_memory),
-        Err(fault) => {
-            let place = place_in(alloc, heap, &fault, text)?;
-            Ok(Checked::Wrong(fault, place))
-        }
+        Err(fault) => Ok(Checked::Wrong(fault)),
     }
 }
 

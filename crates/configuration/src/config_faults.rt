@@ -2,6 +2,7 @@
 
 ghost use Rattle.std.specs.Prelude.{◌≡◌};
 
+use crate::paths::ConfigPath;
 use features::SubjectsFault;
 use memory::{JsonFault, NoMemory};
 use policy_text::TextFault;
@@ -12,12 +13,14 @@ use std::fmt;
 pub enum ConfigFault {
     /// B1: the text is not JSON.
     NotJson,
-    /// B2: outside the policy document, a value is missing or of the wrong form, or a key is
-    /// unknown.
-    Form,
-    /// N1 to N3, the code of the fault inside: the list of subjects is rejected.
-    Subjects(SubjectsFault),
-    /// D2 to D8, the code of the fault inside: the policies are not a policy document.
+    /// B2: outside the policy document, the value at this path is missing or of the wrong form, or
+    /// has an unknown key.
+    Form(ConfigPath),
+    /// N1 to N3, the code of the fault inside: the list of subjects is rejected. The path is that
+    /// of the list; of N3, that of the second name.
+    Subjects(SubjectsFault, ConfigPath),
+    /// D2 to D8, the code of the fault inside: the policies are not a policy document. Its path
+    /// begins at the policies.
     Policies(TextFault),
     /// B5: an allocation was refused. It can occur with any text and replaces any other fault,
     /// except that `read_config` always returns `NotJson` for an empty text.
@@ -33,8 +36,8 @@ impl ConfigFault {
     {
         match self {
             ConfigFault::NotJson => "B1",
-            ConfigFault::Form => "B2",
-            ConfigFault::Subjects(fault) => (*fault).code(),
+            ConfigFault::Form(_) => "B2",
+            ConfigFault::Subjects(fault, _) => (*fault).code(),
             ConfigFault::Policies(fault) => fault.code(),
             ConfigFault::Memory(_) => "B5",
         }
@@ -77,14 +80,14 @@ impl From<JsonFault> for ConfigFault {
     }
 }
 
-impl From<SubjectsFault> for ConfigFault {
+impl From<ConfigPath> for ConfigFault {
     ghost use Rattle.std.specs.Prelude.{◌≡◌};
-    ghost use Rattle.configuration.specs.declared.config_faults.ConfigFault.TheVariants.{Subjects};
+    ghost use Rattle.configuration.specs.declared.config_faults.ConfigFault.TheVariants.{Form};
 
-    ghost from_gives = { λ given fault. fault ≡ Subjects given };
+    ghost from_gives = { λ path fault. fault ≡ Form path };
 
-    fn from(given: SubjectsFault) -> Self {
-        ConfigFault::Subjects(given)
+    fn from(path: ConfigPath) -> Self {
+        ConfigFault::Form(path)
     }
 }
 

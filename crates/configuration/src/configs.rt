@@ -1,24 +1,24 @@
 //! Configurations: who may work on a server, and under which policies.
 
-ghost use Rattle.std.specs.Prelude.{◌≡◌, Err, length};
-ghost use Rattle.std.specs.Option.{ok_or};
+ghost use Rattle.std.specs.Prelude.{◌≡◌, [], Err, bytes_eq, length};
+ghost use Rattle.std.specs.List.{list_any};
 ghost use Rattle.serde_json.specs.View.{view, items_view};
 ghost use Rattle.configuration.specs.ConfigFaults.{Gives};
-ghost use Rattle.configuration.specs.Configs.{config_data, config_from, config_in, config_of, subject_in, subjects_in, taken_over, policies_in};
-ghost use Rattle.configuration.specs.declared.config_faults.ConfigFault.TheVariants.{Form};
+ghost use Rattle.configuration.specs.Configs.{config_data, config_from, config_in, config_of, count_before_again, list_path, of_form, subject_behind, subject_in, subjects_in, taken_over, policies_in};
 
 use crate::config_faults::ConfigFault;
-use crate::fields::{MemberName, array_in, is_object_of, name_in, steward_in, value_in};
+use crate::fields::{array_in, name_in, object_in, steward_in, value_in};
 use crate::grids::grid_member;
+use crate::paths::{ConfigPath, MemberName};
 use crate::web::{Web, web_in};
-use features::{Subject, Subjects};
+use features::{Subject, Subjects, SubjectsFault};
 use grid::Grid;
 use memory::{GrowVec, json_value};
 use policy_text::{Document, document_of_value};
 use serde_json::Value;
 use std::alloc::{Allocator, Global};
 
-pub(crate) const CONFIG_KEYS: [MemberName; 9] = [
+const CONFIG_KEYS: [MemberName; 9] = [
     MemberName::Subjects,
     MemberName::Policies,
     MemberName::Grid,
@@ -30,7 +30,7 @@ pub(crate) const CONFIG_KEYS: [MemberName; 9] = [
     MemberName::TrustedField,
 ];
 
-pub(crate) const SUBJECT_KEYS: [MemberName; 4] = [
+const SUBJECT_KEYS: [MemberName; 4] = [
     MemberName::Name,
     MemberName::Office,
     MemberName::Role,
@@ -50,19 +50,18 @@ pub struct Config<A: Allocator> {
     pub web: Web<A>,
 }
 
-/// The subject that a JSON value spells, or `None`.
+/// The subject of this index, which a JSON value spells.
 #[tactic(auto, unfolding(crate::specs::Configs::subject_in))]
-pub(crate) fn subject_in(value: &Value) -> Option<Subject>
-    ensures { ok_or result Form ≡ subject_in (view value.now) }
+fn subject_in(value: &Value, index: usize) -> Result<Subject, ConfigPath>
+    ensures { result ≡ subject_in index (view value.now) }
 {
-    if !is_object_of(value, &SUBJECT_KEYS) {
-        return None;
-    }
-    let name = name_in(value, MemberName::Name)?;
-    let office = name_in(value, MemberName::Office)?;
-    let role = name_in(value, MemberName::Role)?;
-    let steward = steward_in(value)?;
-    Some(Subject {
+    let path = ConfigPath::Item(MemberName::Subjects, index);
+    object_in(value, &SUBJECT_KEYS, path)?;
+    let name = name_in(value, MemberName::Name, index)?;
+    let office = name_in(value, MemberName::Office, index)?;
+    let role = name_in(value, MemberName::Role, index)?;
+    let steward = steward_in(value, index)?;
+    Ok(Subject {
         name,
         office,
         role,
@@ -70,25 +69,67 @@ pub(crate) fn subject_in(value: &Value) -> Option<Subject>
     })
 }
 
+/// The subject behind these.
+fn subject_behind(before: &[Subject], value: &Value) -> Result<Subject, ConfigPath>
+    ensures { result ≡ subject_behind before.now (view value.now) }
+{
+    subject_in(value, before.len())
+}
+
 /// The subjects of an array, in order.
 fn subjects_in<A: Allocator>(alloc: A, items: &[Value]) -> Result<Vec<Subject, A>, ConfigFault>
-    ensures { Gives (λ subjects. subjects.items) result (subjects_in (items_view items.now)) }
+    ensures { Gives (λ subjects. subjects.items) result (of_form (subjects_in (items_view items.now))) }
 {
     let mut subjects = Vec::new(alloc);
     for value in items {
-        let Some(subject) = subject_in(value) else {
-            return Err(ConfigFault::Form);
-        };
+        let subject = subject_behind(subjects.as_slice(), value)?;
         subjects.try_push(subject)?;
     }
     Ok(subjects)
+}
+
+/// Whether one of these subjects has the name of this one.
+fn is_named_before(subject: &Subject, before: &[Subject]) -> bool
+    ensures { result ≡ list_any (λ other. bytes_eq other.name subject.now.name) before.now }
+{
+    before.iter().any(|other| other.name == subject.name)
+}
+
+/// How many subjects stand before the first one whose name one of them has.
+fn count_before_again(subjects: &[Subject]) -> usize
+    ensures { result ≡ count_before_again [] subjects.now }
+{
+    for (index, subject) in subjects.iter().enumerate() {
+        if is_named_before(subject, &subjects[..index]) {
+            return index;
+        }
+    }
+    subjects.len()
+}
+
+/// Where a fault of the list of these subjects is.
+fn list_path(subjects: &[Subject], fault: SubjectsFault) -> ConfigPath
+    ensures { result ≡ list_path subjects.now fault }
+{
+    match fault {
+        SubjectsFault::NoneGiven | SubjectsFault::TooMany => {
+            ConfigPath::Member(MemberName::Subjects)
+        }
+        SubjectsFault::NameTwice => {
+            let index = count_before_again(subjects);
+            ConfigPath::ItemMember(MemberName::Subjects, index, MemberName::Name)
+        }
+    }
 }
 
 /// The checked list of subjects.
 fn taken_over(subjects: &[Subject]) -> Result<Subjects, ConfigFault>
     ensures { result ≡ taken_over subjects.now }
 {
-    Ok(Subjects::new(subjects)?)
+    match Subjects::new(subjects) {
+        Ok(taken) => Ok(taken),
+        Err(fault) => Err(ConfigFault::Subjects(fault, list_path(subjects, fault))),
+    }
 }
 
 /// The document that a JSON value spells.
@@ -127,14 +168,12 @@ fn config_from<A: Allocator + Copy>(
 fn config_in<A: Allocator + Copy>(alloc: A, value: &Value) -> Result<Config<A>, ConfigFault>
     ensures { Gives config_data result (config_in (view value.now)) }
 {
-    if !is_object_of(value, &CONFIG_KEYS) {
-        return Err(ConfigFault::Form);
-    }
+    object_in(value, &CONFIG_KEYS, ConfigPath::Whole)?;
     let Some(items) = array_in(value, MemberName::Subjects) else {
-        return Err(ConfigFault::Form);
+        return Err(ConfigFault::Form(ConfigPath::Member(MemberName::Subjects)));
     };
     let Some(policies) = value_in(value, MemberName::Policies) else {
-        return Err(ConfigFault::Form);
+        return Err(ConfigFault::Form(ConfigPath::Member(MemberName::Policies)));
     };
     config_from(alloc, items, policies, value)
 }
@@ -158,8 +197,9 @@ fn config_in<A: Allocator + Copy>(alloc: A, value: &Value) -> Result<Config<A>, 
 /// The error is the first in this order: `NotJson` if the text is not JSON or not UTF-8; `Form` if,
 /// outside the policies, a value is missing or of the wrong form, or a key is unknown; `Subjects`
 /// if the list is empty, too long, or has a name twice; `Policies` for the first fault of the
-/// document; `Form` if the grid is at fault, or what is said of HTTP. If an allocation is refused, it
-/// is `Memory`. The parsed JSON lies in `heap` until this returns; the document, what is said of
+/// document; `Form` if the grid is at fault, or what is said of HTTP. Each has the path of the first
+/// value that has it, in the order of the array or of what is said here. If an allocation is refused,
+/// it is `Memory`. The parsed JSON lies in `heap` until this returns; the document, what is said of
 /// HTTP, and a temporary list of the subjects, are allocated in `alloc`.
 pub fn read_config<A: Allocator + Copy>(
     alloc: A,

@@ -1,65 +1,15 @@
 //! The members of the objects of a configuration.
 
-ghost use Rattle.std.specs.Prelude.{◌≡◌, Ok, Err, if◌then◌else◌, option_map, option_and_then};
-ghost use Rattle.std.specs.Option.{ok_or};
+ghost use Rattle.std.specs.Prelude.{◌≡◌, option_map, option_and_then};
 ghost use Rattle.serde_json.specs.Find.{as_array};
 ghost use Rattle.serde_json.specs.View.{view, items_view, members_view};
-ghost use Rattle.configuration.specs.Configs.{key_text, is_listed, has_only, object_in, name_in, steward_in, value_of};
-ghost use Rattle.configuration.specs.declared.config_faults.ConfigFault.TheVariants.{Form};
+ghost use Rattle.configuration.specs.Configs.{flag_in, has_only, is_listed, is_object_of, name_in, object_in, steward_in, value_of};
+ghost use Rattle.configuration.specs.Paths.{key_text};
+ghost use Rattle.configuration.specs.Web.{name_at, subject_at};
 
-use features::Name;
+use crate::paths::{ConfigPath, MemberName};
+use features::{Name, Subjects};
 use serde_json::{Map, Value};
-
-/// A key of an object of a configuration.
-#[derive(Clone, Copy)]
-pub(crate) enum MemberName {
-    Subjects,
-    Policies,
-    Grid,
-    Anonymous,
-    Metrics,
-    Public,
-    Collections,
-    Keys,
-    TrustedField,
-    Origin,
-    Decimals,
-    Between,
-    Name,
-    Office,
-    Role,
-    Steward,
-    Subject,
-    Sha256,
-}
-
-impl MemberName {
-    /// The key as it is written.
-    pub fn text(self) -> &'static str
-        ensures { result.now ≡ key_text self }
-    {
-        match self {
-            MemberName::Subjects => "subjects",
-            MemberName::Policies => "policies",
-            MemberName::Grid => "grid",
-            MemberName::Anonymous => "anonymous",
-            MemberName::Metrics => "metrics",
-            MemberName::Public => "public",
-            MemberName::Collections => "collections",
-            MemberName::Keys => "keys",
-            MemberName::TrustedField => "trusted-field",
-            MemberName::Origin => "origin",
-            MemberName::Decimals => "decimals",
-            MemberName::Between => "between",
-            MemberName::Name => "name",
-            MemberName::Office => "office",
-            MemberName::Role => "role",
-            MemberName::Steward => "steward",
-            MemberName::Subject => "subject",
-            MemberName::Sha256 => "sha256",
-        }
-    }
-}
 
 /// Whether a text is one of the listed keys.
 fn is_listed(listed: &[MemberName], text: &str) -> bool
@@ -82,11 +32,26 @@ fn has_only(listed: &[MemberName], members: &Map<String, Value>) -> bool
 
 /// Whether a value is an object with listed keys only.
 pub(crate) fn is_object_of(value: &Value, listed: &[MemberName]) -> bool
-    ensures { object_in listed.now (view value.now) ≡ (if result then Ok tt else Err Form) }
+    ensures { result ≡ is_object_of listed.now (view value.now) }
 {
     match value.as_object() {
         Some(members) => has_only(listed, members),
         None => false,
+    }
+}
+
+/// Checks that a value is an object with listed keys only, which stands at this path.
+pub(crate) fn object_in(
+    value: &Value,
+    listed: &[MemberName],
+    path: ConfigPath,
+) -> Result<(), ConfigPath>
+    ensures { result ≡ object_in listed.now path (view value.now) }
+{
+    if is_object_of(value, listed) {
+        Ok(())
+    } else {
+        Err(path)
     }
 }
 
@@ -105,20 +70,55 @@ pub(crate) fn array_in(value: &Value, key: MemberName) -> Option<&[Value]>
     Some(value.get(key.text())?.as_array()?)
 }
 
-/// The name under a key.
-pub(crate) fn name_in(value: &Value, key: MemberName) -> Option<Name>
-    ensures { ok_or result Form ≡ name_in key (view value.now) }
+/// The name that a value spells.
+pub(crate) fn name_at(value: &Value) -> Option<Name>
+    ensures { result ≡ name_at (view value.now) }
 {
-    let text = value.get(key.text())?.as_str()?;
-    Name::new(text.as_bytes())
+    Name::new(value.as_str()?.as_bytes())
 }
 
-/// Whether a subject is a steward; false if the key is missing.
-pub(crate) fn steward_in(value: &Value) -> Option<bool>
-    ensures { ok_or result Form ≡ steward_in (view value.now) }
+/// The name of one of these subjects that a value spells.
+pub(crate) fn subject_at(subjects: &Subjects, value: &Value) -> Option<Name>
+    ensures { result ≡ subject_at subjects.now (view value.now) }
 {
-    match value.get(MemberName::Steward.text()) {
-        Some(flag) => flag.as_bool(),
-        None => Some(false),
+    let subject = subjects.get(name_at(value)?)?;
+    Some(subject.name)
+}
+
+/// The name under a key.
+fn name_under(value: &Value, key: MemberName) -> Option<Name>
+    ensures { result ≡ option_and_then name_at (value_of key (view value.now)) }
+{
+    name_at(value_in(value, key)?)
+}
+
+/// The name under a key of the subject of this index.
+pub(crate) fn name_in(value: &Value, key: MemberName, index: usize) -> Result<Name, ConfigPath>
+    ensures { result ≡ name_in key index (view value.now) }
+{
+    match name_under(value, key) {
+        Some(name) => Ok(name),
+        None => Err(ConfigPath::ItemMember(MemberName::Subjects, index, key)),
     }
+}
+
+/// A flag at a path; false if it is missing.
+pub(crate) fn flag_in(value: Option<&Value>, path: ConfigPath) -> Result<bool, ConfigPath>
+    ensures { result ≡ flag_in path (option_map (λ v. view v.now) value.entry) }
+{
+    let Some(value) = value else {
+        return Ok(false);
+    };
+    match value.as_bool() {
+        Some(flag) => Ok(flag),
+        None => Err(path),
+    }
+}
+
+/// Whether the subject of this index is a steward; false if the key is missing.
+pub(crate) fn steward_in(value: &Value, index: usize) -> Result<bool, ConfigPath>
+    ensures { result ≡ steward_in index (view value.now) }
+{
+    let path = ConfigPath::ItemMember(MemberName::Subjects, index, MemberName::Steward);
+    flag_in(value_in(value, MemberName::Steward), path)
 }

@@ -3,16 +3,15 @@
 ghost use Rattle.std.specs.Prelude.{◌≡◌, Some, None, option_map};
 ghost use Rattle.std.specs.Option.{ok_or};
 ghost use Rattle.serde_json.specs.View.{view};
-ghost use Rattle.configuration.specs.ConfigFaults.{Gives};
-ghost use Rattle.configuration.specs.Configs.{between_in, between_named, grid_data, grid_from, grid_in, grid_member, origin_in, text_at};
-ghost use Rattle.configuration.specs.declared.config_faults.ConfigFault.TheVariants.{Form};
+ghost use Rattle.configuration.specs.ConfigFaults.{Shows};
+ghost use Rattle.configuration.specs.Configs.{between_in, between_named, grid_data, grid_from, grid_in, grid_member, origin_in, text_at, grid_path};
 
-use crate::config_faults::ConfigFault;
-use crate::fields::{MemberName, is_object_of, value_in};
+use crate::fields::{is_object_of, value_in};
+use crate::paths::{ConfigPath, MemberName};
 use grid::{Between, Grid, MOST_DECIMALS};
 use serde_json::Value;
 
-pub(crate) const GRID_KEYS: [MemberName; 3] = [
+const GRID_KEYS: [MemberName; 3] = [
     MemberName::Origin,
     MemberName::Decimals,
     MemberName::Between,
@@ -27,7 +26,7 @@ fn text_at(value: &Value, index: usize) -> Option<&str>
 
 /// The two texts of an origin.
 fn origin_in(value: &Value) -> Option<(&str, &str)>
-    ensures { ok_or (option_map (λ texts. (texts.0.now, texts.1.now)) result) Form
+    ensures { ok_or (option_map (λ texts. (texts.0.now, texts.1.now)) result) grid_path
         ≡ origin_in (view value.now) }
 {
     let x = text_at(value, 0)?;
@@ -53,7 +52,7 @@ fn between_named(name: &str) -> Option<Between>
 
 /// What becomes of a number between two steps; it is refused where nothing is said.
 fn between_in(value: Option<&Value>) -> Option<Between>
-    ensures { ok_or result Form ≡ between_in (option_map (λ v. view v.now) value.entry) }
+    ensures { ok_or result grid_path ≡ between_in (option_map (λ v. view v.now) value.entry) }
 {
     match value {
         Some(value) => between_named(value.as_str()?),
@@ -64,7 +63,7 @@ fn between_in(value: Option<&Value>) -> Option<Between>
 /// The grid of an origin, of decimals, and of what becomes of a number between two steps.
 #[tactic(auto, using(crate::proofs::GridLemmas::from_new, crate::proofs::GridLemmas::from_fault, crate::proofs::GridLemmas::too_many))]
 fn grid_from(x: &str, y: &str, decimals: u64, between: Between) -> Option<Grid>
-    ensures { ok_or (option_map grid_data result) Form ≡ grid_from x.now y.now decimals between }
+    ensures { ok_or (option_map grid_data result) grid_path ≡ grid_from x.now y.now decimals between }
 {
     if decimals > u64::from(MOST_DECIMALS) {
         return None;
@@ -77,8 +76,8 @@ fn grid_from(x: &str, y: &str, decimals: u64, between: Between) -> Option<Grid>
 
 /// The grid that a JSON value spells, or `None`.
 #[tactic(auto, unfolding(crate::specs::Configs::grid_in))]
-pub(crate) fn grid_in(value: &Value) -> Option<Grid>
-    ensures { ok_or (option_map grid_data result) Form ≡ grid_in (view value.now) }
+fn grid_in(value: &Value) -> Option<Grid>
+    ensures { ok_or (option_map grid_data result) grid_path ≡ grid_in (view value.now) }
 {
     if !is_object_of(value, &GRID_KEYS) {
         return None;
@@ -91,8 +90,8 @@ pub(crate) fn grid_in(value: &Value) -> Option<Grid>
 }
 
 /// The grid under the key, if there is one.
-pub(crate) fn grid_member(value: Option<&Value>) -> Result<Option<Grid>, ConfigFault>
-    ensures { Gives (option_map grid_data) result
+pub(crate) fn grid_member(value: Option<&Value>) -> Result<Option<Grid>, ConfigPath>
+    ensures { Shows (option_map grid_data) result
         (grid_member (option_map (λ v. view v.now) value.entry)) }
 {
     let Some(value) = value else {
@@ -100,6 +99,6 @@ pub(crate) fn grid_member(value: Option<&Value>) -> Result<Option<Grid>, ConfigF
     };
     match grid_in(value) {
         Some(grid) => Ok(Some(grid)),
-        None => Err(ConfigFault::Form),
+        None => Err(ConfigPath::Member(MemberName::Grid)),
     }
 }

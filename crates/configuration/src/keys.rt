@@ -1,18 +1,18 @@
 //! The keys that a configuration has for requests of HTTP.
 
-ghost use Rattle.std.specs.Prelude.{◌≡◌, option_map};
-ghost use Rattle.std.specs.List.{list_all, list_any};
-ghost use Rattle.std.specs.Option.{ok_or};
+ghost use Rattle.std.specs.Prelude.{◌≡◌, [], option_and_then, option_map};
+ghost use Rattle.std.specs.List.{list_any};
 ghost use Rattle.serde_json.specs.View.{items_view, view};
 ghost use Rattle.configuration.specs.ConfigFaults.{Gives};
-ghost use Rattle.configuration.specs.Configs.{digest_in, flag_in, key_in, keys_for, keys_in, keys_member, trusted_member};
-ghost use Rattle.configuration.specs.Web.{are_distinct_keys, are_keys, digest_at, is_of_subjects, is_same_key};
-ghost use Rattle.configuration.specs.declared.config_faults.ConfigFault.TheVariants.{Form};
+ghost use Rattle.configuration.specs.Configs.{each, key_behind, key_digest, key_in, key_subject, keys_in, keys_member, of_form, trusted_member, value_of};
+ghost use Rattle.configuration.specs.Web.{digest_at, is_same_key, subject_at};
+ghost use Rattle.configuration.specs.declared.paths.MemberName.TheVariants as member_names;
 
 use crate::config_faults::ConfigFault;
-use crate::fields::{MemberName, is_object_of, name_in, value_in};
+use crate::fields::{flag_in, object_in, subject_at, value_in};
+use crate::paths::{ConfigPath, MemberName};
 use credentials::Key;
-use features::Subjects;
+use features::{Name, Subjects};
 use hex::FromHex;
 use memory::GrowVec;
 use serde_json::Value;
@@ -21,37 +21,63 @@ use std::alloc::Allocator;
 /// The most keys.
 pub const KEY_LIMIT: usize = 1_024;
 
-pub(crate) const KEY_KEYS: [MemberName; 2] = [MemberName::Subject, MemberName::Sha256];
+const KEY_KEYS: [MemberName; 2] = [MemberName::Subject, MemberName::Sha256];
 
 /// The digest that a value spells.
-pub(crate) fn digest_at(value: &Value) -> Option<[u8; 32]>
+fn digest_at(value: &Value) -> Option<[u8; 32]>
     ensures { result ≡ digest_at (view value.now) }
 {
     <[u8; 32] as FromHex>::from_hex(value.as_str()?).ok()
 }
 
-/// The digest under the key.
-fn digest_in(value: &Value) -> Option<[u8; 32]>
-    ensures { ok_or result Form ≡ digest_in (view value.now) }
+/// The subject under the key of a key.
+fn subject_under(subjects: &Subjects, value: &Value) -> Option<Name>
+    ensures { result
+        ≡ option_and_then (subject_at subjects.now) (value_of member_names.Subject (view value.now)) }
+{
+    subject_at(subjects, value_in(value, MemberName::Subject)?)
+}
+
+/// The digest under the key of a key.
+fn digest_under(value: &Value) -> Option<[u8; 32]>
+    ensures { result ≡ option_and_then digest_at (value_of member_names.Sha256 (view value.now)) }
 {
     digest_at(value_in(value, MemberName::Sha256)?)
 }
 
-/// The key that a JSON value spells, or `None`.
-#[tactic(auto, unfolding(crate::specs::Configs::key_in))]
-pub(crate) fn key_in(value: &Value) -> Option<Key>
-    ensures { ok_or result Form ≡ key_in (view value.now) }
+/// The subject of the key of this index.
+fn key_subject(subjects: &Subjects, value: &Value, index: usize) -> Result<Name, ConfigPath>
+    ensures { result ≡ key_subject subjects.now index (view value.now) }
 {
-    if !is_object_of(value, &KEY_KEYS) {
-        return None;
+    match subject_under(subjects, value) {
+        Some(name) => Ok(name),
+        None => Err(ConfigPath::ItemMember(MemberName::Keys, index, MemberName::Subject)),
     }
-    let subject = name_in(value, MemberName::Subject)?;
-    let digest = digest_in(value)?;
-    Some(Key { subject, digest })
+}
+
+/// The digest of the key of this index.
+fn key_digest(value: &Value, index: usize) -> Result<[u8; 32], ConfigPath>
+    ensures { result ≡ key_digest index (view value.now) }
+{
+    match digest_under(value) {
+        Some(digest) => Ok(digest),
+        None => Err(ConfigPath::ItemMember(MemberName::Keys, index, MemberName::Sha256)),
+    }
+}
+
+/// The key of this index, which a JSON value spells.
+#[tactic(auto, unfolding(crate::specs::Configs::key_in))]
+fn key_in(subjects: &Subjects, value: &Value, index: usize) -> Result<Key, ConfigPath>
+    ensures { result ≡ key_in subjects.now index (view value.now) }
+{
+    object_in(value, &KEY_KEYS, ConfigPath::Item(MemberName::Keys, index))?;
+    let subject = key_subject(subjects, value, index)?;
+    let digest = key_digest(value, index)?;
+    Ok(Key { subject, digest })
 }
 
 /// Whether two keys are one.
-pub(crate) fn is_same_key(a: &Key, b: &Key) -> bool
+fn is_same_key(a: &Key, b: &Key) -> bool
     ensures { result ≡ is_same_key a.now b.now }
 {
     a.subject == b.subject && a.digest == b.digest
@@ -64,69 +90,49 @@ fn is_among(key: &Key, keys: &[Key]) -> bool
     keys.iter().any(|other| is_same_key(key, other))
 }
 
-/// Whether none of these keys stands twice.
-fn are_distinct_keys(keys: &[Key]) -> bool
-    ensures { result ≡ are_distinct_keys keys.now }
+/// The key behind these, none of which it is.
+#[tactic(auto, unfolding(crate::specs::Configs::key_behind))]
+fn key_behind(subjects: &Subjects, before: &[Key], value: &Value) -> Result<Key, ConfigPath>
+    ensures { result ≡ key_behind subjects.now before.now (view value.now) }
 {
-    let mut rest = keys;
-    while let Some((first, others)) = rest.split_first() {
-        if is_among(first, others) {
-            return false;
-        }
-        rest = others;
+    let index = before.len();
+    let key = key_in(subjects, value, index)?;
+    if is_among(&key, before) {
+        return Err(ConfigPath::Item(MemberName::Keys, index));
     }
-    true
-}
-
-/// Whether a key is one of these subjects'.
-fn is_of_subjects(subjects: &Subjects, key: &Key) -> bool
-    ensures { result ≡ is_of_subjects subjects.now key.now }
-{
-    subjects.get(key.subject).is_some()
-}
-
-/// Whether each of these keys is one of these subjects'.
-fn are_of_subjects(subjects: &Subjects, keys: &[Key]) -> bool
-    ensures { result ≡ list_all (is_of_subjects subjects.now) keys.now }
-{
-    keys.iter().all(|key| is_of_subjects(subjects, key))
-}
-
-/// Whether these keys may be those of these subjects.
-fn are_keys(subjects: &Subjects, keys: &[Key]) -> bool
-    ensures { result ≡ are_keys subjects.now keys.now }
-{
-    keys.len() <= KEY_LIMIT && are_of_subjects(subjects, keys) && are_distinct_keys(keys)
+    Ok(key)
 }
 
 /// The keys of an array, in order.
-fn keys_in<A: Allocator>(alloc: A, items: &[Value]) -> Result<Vec<Key, A>, ConfigFault>
-    ensures { Gives (λ keys. keys.items) result (keys_in (items_view items.now)) }
+fn keys_of<A: Allocator>(
+    alloc: A,
+    subjects: &Subjects,
+    items: &[Value],
+) -> Result<Vec<Key, A>, ConfigFault>
+    ensures { Gives (λ keys. keys.items) result
+        (of_form (each (key_behind subjects.now) [] (items_view items.now))) }
 {
     let mut keys = Vec::new(alloc);
     for value in items {
-        let Some(key) = key_in(value) else {
-            return Err(ConfigFault::Form);
-        };
+        let key = key_behind(subjects, keys.as_slice(), value)?;
         keys.try_push(key)?;
     }
     Ok(keys)
 }
 
-/// The keys of an array, which are for these subjects.
-fn keys_for<A: Allocator>(
+/// The keys of an array, if it has not too many.
+fn keys_in<A: Allocator>(
     alloc: A,
     subjects: &Subjects,
     items: &[Value],
 ) -> Result<Vec<Key, A>, ConfigFault>
-    ensures { Gives (λ keys. keys.items) result (keys_for subjects.now (items_view items.now)) }
+    ensures { Gives (λ keys. keys.items) result
+        (of_form (keys_in subjects.now (items_view items.now))) }
 {
-    let keys = keys_in(alloc, items)?;
-    if are_keys(subjects, keys.as_slice()) {
-        Ok(keys)
-    } else {
-        Err(ConfigFault::Form)
+    if items.len() > KEY_LIMIT {
+        return Err(ConfigFault::Form(ConfigPath::Member(MemberName::Keys)));
     }
+    keys_of(alloc, subjects, items)
 }
 
 /// The keys under the key; none, if nothing is there.
@@ -136,36 +142,25 @@ pub(crate) fn keys_member<A: Allocator>(
     value: Option<&Value>,
 ) -> Result<Vec<Key, A>, ConfigFault>
     ensures { Gives (λ keys. keys.items) result
-        (keys_member subjects.now (option_map (λ v. view v.now) value.entry)) }
+        (of_form (keys_member subjects.now (option_map (λ v. view v.now) value.entry))) }
 {
     let Some(value) = value else {
         return Ok(Vec::new(alloc));
     };
     match value.as_array() {
-        Some(items) => keys_for(alloc, subjects, items.as_slice()),
-        None => Err(ConfigFault::Form),
-    }
-}
-
-/// A flag; false if it is missing.
-fn flag_in(value: Option<&Value>) -> Option<bool>
-    ensures { ok_or result Form ≡ flag_in (option_map (λ v. view v.now) value.entry) }
-{
-    match value {
-        Some(flag) => flag.as_bool(),
-        None => Some(false),
+        Some(items) => keys_in(alloc, subjects, items.as_slice()),
+        None => Err(ConfigFault::Form(ConfigPath::Member(MemberName::Keys))),
     }
 }
 
 /// Whether a field is trusted, beside these keys.
-pub(crate) fn trusted_member(keys: &[Key], value: Option<&Value>) -> Result<bool, ConfigFault>
+pub(crate) fn trusted_member(keys: &[Key], value: Option<&Value>) -> Result<bool, ConfigPath>
     ensures { result ≡ trusted_member keys.now (option_map (λ v. view v.now) value.entry) }
 {
-    let Some(trusted) = flag_in(value) else {
-        return Err(ConfigFault::Form);
-    };
+    let path = ConfigPath::Member(MemberName::TrustedField);
+    let trusted = flag_in(value, path)?;
     if trusted && !keys.is_empty() {
-        return Err(ConfigFault::Form);
+        return Err(path);
     }
     Ok(trusted)
 }

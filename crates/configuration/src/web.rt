@@ -1,17 +1,16 @@
 //! What a configuration says of HTTP.
 
-ghost use Rattle.std.specs.Prelude.{◌≡◌, bytes_eq, codes, option_map, string_bytes};
-ghost use Rattle.std.specs.List.{list_all, list_any};
-ghost use Rattle.std.specs.Option.{ok_or};
+ghost use Rattle.std.specs.Prelude.{◌≡◌, [], bytes_eq, codes, option_map, string_bytes};
+ghost use Rattle.std.specs.List.{list_all};
 ghost use Rattle.serde_json.specs.View.{items_view, view};
 ghost use Rattle.configuration.specs.ConfigFaults.{Gives};
-ghost use Rattle.configuration.specs.Configs.{collections_in, collections_member, names_in, public_member, subject_member, web_data, web_in};
-ghost use Rattle.configuration.specs.Web.{are_collections, are_distinct, behind_scheme, is_beginning, is_host_byte, is_host, name_at, public_at, subject_at};
-ghost use Rattle.configuration.specs.declared.config_faults.ConfigFault.TheVariants.{Form};
+ghost use Rattle.configuration.specs.Configs.{collection_in, collections_in, collections_member, each, is_no_collection, of_form, public_member, subject_member, value_of, web_data, web_in};
+ghost use Rattle.configuration.specs.Web.{behind_scheme, is_beginning, is_host_byte, is_host, public_at};
 
 use crate::config_faults::ConfigFault;
-use crate::fields::{MemberName, value_in};
+use crate::fields::{name_at, subject_at, value_in};
 use crate::keys::{keys_member, trusted_member};
+use crate::paths::{ConfigPath, MemberName};
 use credentials::Key;
 use features::{Name, Subjects};
 use memory::{GrowVec, text};
@@ -25,7 +24,7 @@ pub const COLLECTION_LIMIT: usize = 64;
 pub const PUBLIC_LIMIT: usize = 200;
 
 /// The collection of all features, which no class may be called.
-pub(crate) const ALL_FEATURES: &str = "features";
+const ALL_FEATURES: &str = "features";
 
 /// What a configuration says of HTTP.
 #[derive(Debug, Drop)]
@@ -44,31 +43,20 @@ pub struct Web<A: Allocator> {
     pub trusted_field: bool,
 }
 
-/// The name that a value spells.
-fn name_at(value: &Value) -> Option<Name>
-    ensures { result ≡ name_at (view value.now) }
+/// The subject under a key of a configuration, if there is one.
+fn subject_member(
+    subjects: &Subjects,
+    value: &Value,
+    key: MemberName,
+) -> Result<Option<Name>, ConfigPath>
+    ensures { result ≡ subject_member subjects.now key (value_of key (view value.now)) }
 {
-    Name::new(value.as_str()?.as_bytes())
-}
-
-/// The name of a subject that a value spells.
-fn subject_at(subjects: &Subjects, value: &Value) -> Option<Name>
-    ensures { result ≡ subject_at subjects.now (view value.now) }
-{
-    let subject = subjects.get(name_at(value)?)?;
-    Some(subject.name)
-}
-
-/// The subject under the key, if there is one.
-fn subject_member(subjects: &Subjects, value: Option<&Value>) -> Result<Option<Name>, ConfigFault>
-    ensures { result ≡ subject_member subjects.now (option_map (λ v. view v.now) value.entry) }
-{
-    let Some(value) = value else {
+    let Some(value) = value_in(value, key) else {
         return Ok(None);
     };
     match subject_at(subjects, value) {
         Some(name) => Ok(Some(name)),
-        None => Err(ConfigFault::Form),
+        None => Err(ConfigPath::Member(key)),
     }
 }
 
@@ -118,7 +106,7 @@ fn is_beginning(text: &[u8]) -> bool
 }
 
 /// The text that a value spells, if links may begin with it.
-pub(crate) fn public_at(value: &Value) -> Option<&str>
+fn public_at(value: &Value) -> Option<&str>
     ensures { option_map (λ text. text.now) result ≡ public_at (view value.now) }
 {
     let text = value.as_str()?;
@@ -135,44 +123,16 @@ fn public_member<A: Allocator>(
     value: Option<&Value>,
 ) -> Result<Option<String<A>>, ConfigFault>
     ensures { Gives (option_map (λ text. string_bytes text)) result
-        (public_member (option_map (λ v. view v.now) value.entry)) }
+        (of_form (public_member (option_map (λ v. view v.now) value.entry))) }
 {
     let Some(value) = value else {
         return Ok(None);
     };
     let Some(given) = public_at(value) else {
-        return Err(ConfigFault::Form);
+        return Err(ConfigFault::Form(ConfigPath::Member(MemberName::Public)));
     };
     let public = text(alloc, given)?;
     Ok(Some(public))
-}
-
-/// The names of an array, in order.
-fn names_in<A: Allocator>(alloc: A, items: &[Value]) -> Result<Vec<Name, A>, ConfigFault>
-    ensures { Gives (λ names. names.items) result (names_in (items_view items.now)) }
-{
-    let mut names = Vec::new(alloc);
-    for value in items {
-        let Some(name) = name_at(value) else {
-            return Err(ConfigFault::Form);
-        };
-        names.try_push(name)?;
-    }
-    Ok(names)
-}
-
-/// Whether none of these names stands twice.
-fn are_distinct(names: &[Name]) -> bool
-    ensures { result ≡ are_distinct names.now }
-{
-    let mut rest = names;
-    while let Some((first, others)) = rest.split_first() {
-        if others.contains(first) {
-            return false;
-        }
-        rest = others;
-    }
-    true
 }
 
 /// Whether a name is that of the collection of all features.
@@ -182,30 +142,49 @@ fn is_all(name: &Name) -> bool
     name.as_bytes() == ALL_FEATURES.as_bytes()
 }
 
-/// Whether the name of the collection of all features is among these.
-fn is_all_among(names: &[Name]) -> bool
-    ensures { result ≡ list_any (λ name. bytes_eq name (codes "features")) names.now }
+/// Whether a name may not be one more collection behind these.
+fn is_no_collection(before: &[Name], name: &Name) -> bool
+    ensures { result ≡ is_no_collection before.now name.now }
 {
-    names.iter().any(|name| is_all(name))
+    is_all(name) || before.contains(name)
 }
 
-/// Whether these names may be collections.
-fn are_collections(names: &[Name]) -> bool
-    ensures { result ≡ are_collections names.now }
+/// The collection behind these.
+#[tactic(auto, unfolding(crate::specs::Configs::collection_in))]
+fn collection_in(before: &[Name], value: &Value) -> Result<Name, ConfigPath>
+    ensures { result ≡ collection_in before.now (view value.now) }
 {
-    names.len() <= COLLECTION_LIMIT && !is_all_among(names) && are_distinct(names)
-}
-
-/// The collections of an array.
-fn collections_in<A: Allocator>(alloc: A, items: &[Value]) -> Result<Vec<Name, A>, ConfigFault>
-    ensures { Gives (λ names. names.items) result (collections_in (items_view items.now)) }
-{
-    let names = names_in(alloc, items)?;
-    if are_collections(names.as_slice()) {
-        Ok(names)
-    } else {
-        Err(ConfigFault::Form)
+    let path = ConfigPath::Item(MemberName::Collections, before.len());
+    let Some(name) = name_at(value) else {
+        return Err(path);
+    };
+    if is_no_collection(before, &name) {
+        return Err(path);
     }
+    Ok(name)
+}
+
+/// The collections of an array, in order.
+fn collections_of<A: Allocator>(alloc: A, items: &[Value]) -> Result<Vec<Name, A>, ConfigFault>
+    ensures { Gives (λ names. names.items) result
+        (of_form (each collection_in [] (items_view items.now))) }
+{
+    let mut names = Vec::new(alloc);
+    for value in items {
+        let name = collection_in(names.as_slice(), value)?;
+        names.try_push(name)?;
+    }
+    Ok(names)
+}
+
+/// The collections of an array, if it has not too many.
+fn collections_in<A: Allocator>(alloc: A, items: &[Value]) -> Result<Vec<Name, A>, ConfigFault>
+    ensures { Gives (λ names. names.items) result (of_form (collections_in (items_view items.now))) }
+{
+    if items.len() > COLLECTION_LIMIT {
+        return Err(ConfigFault::Form(ConfigPath::Member(MemberName::Collections)));
+    }
+    collections_of(alloc, items)
 }
 
 /// The collections under the key; none, if nothing is there.
@@ -214,14 +193,14 @@ fn collections_member<A: Allocator>(
     value: Option<&Value>,
 ) -> Result<Vec<Name, A>, ConfigFault>
     ensures { Gives (λ names. names.items) result
-        (collections_member (option_map (λ v. view v.now) value.entry)) }
+        (of_form (collections_member (option_map (λ v. view v.now) value.entry))) }
 {
     let Some(value) = value else {
         return Ok(Vec::new(alloc));
     };
     match value.as_array() {
         Some(items) => collections_in(alloc, items.as_slice()),
-        None => Err(ConfigFault::Form),
+        None => Err(ConfigFault::Form(ConfigPath::Member(MemberName::Collections))),
     }
 }
 
@@ -232,10 +211,10 @@ pub(crate) fn web_in<A: Allocator + Copy>(
     subjects: &Subjects,
     value: &Value,
 ) -> Result<Web<A>, ConfigFault>
-    ensures { Gives web_data result (web_in subjects.now (view value.now)) }
+    ensures { Gives web_data result (of_form (web_in subjects.now (view value.now))) }
 {
-    let anonymous = subject_member(subjects, value_in(value, MemberName::Anonymous))?;
-    let metrics = subject_member(subjects, value_in(value, MemberName::Metrics))?;
+    let anonymous = subject_member(subjects, value, MemberName::Anonymous)?;
+    let metrics = subject_member(subjects, value, MemberName::Metrics)?;
     let public = public_member(alloc, value_in(value, MemberName::Public))?;
     let collections = collections_member(alloc, value_in(value, MemberName::Collections))?;
     let keys = keys_member(alloc, subjects, value_in(value, MemberName::Keys))?;

@@ -12,7 +12,6 @@ use Rattle.configuration.specs.declared.checking.Checked.{Checked}
 use Rattle.configuration.specs.declared.config_faults.ConfigFault.{ConfigFault}
 use Rattle.configuration.specs.declared.config_faults.ConfigFault.TheVariants.{Memory}
 use Rattle.configuration.specs.declared.files.ReadFault.TheVariants.{NotOpened}
-use Rattle.configuration.specs.declared.places.PathPart.{PathPart}
 use Rattle.configuration.specs.declared.summaries.Summary.{Summary}
 use Rattle.grid.specs.declared.grids.Grid.{Grid}
 use Rattle.drawing.specs.Drawings.{Draws, DrawsAll}
@@ -44,12 +43,11 @@ IsFoundRight held before after =
     × IfSome held (IsRight summary grid web)
     × Appends before after (summary_text summary ++ (grid_part grid ++ web_part web))
 
--- it is wrong, and its first fault was written, with its place if that is known
+-- it is wrong, and its first fault was written, with its place
 abbrev pub IsFoundWrong : ConfigFault → Option (List ℕ) → Option (List ℕ) → Option (List ℕ) → Type 0
 IsFoundWrong (Memory refused) held before after = Unit {0}
 IsFoundWrong fault held before after =
-    (place : Option (List PathPart)) × IfSome held (IsWrong fault place)
-    × Appends before after (wrong_text fault place)
+    IfSome held (IsWrong fault) × Appends before after (wrong_text fault)
 
 -- why looking at the configuration in the file of a name ended with a fault
 abbrev pub LookBroke : (List ℕ → Option (List ℕ)) → (List ℕ → Type 0) → List ℕ → Option (List ℕ)

@@ -64,7 +64,7 @@ pub fn check_named<'a, F: Folder, W: Write>(
     };
     match checked {
         Checked::Right(_summary, _grid, _web) => Ok(flushed),
-        Checked::Wrong(fault, _place) => Err(ProgramFault::Config(fault)),
+        Checked::Wrong(fault) => Err(ProgramFault::Config(fault)),
     }
 }
 

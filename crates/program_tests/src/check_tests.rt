@@ -118,7 +118,7 @@ fn said_of_http(rt: HostRuntime) -> Result<(), Fail> {
 }
 
 /// What is wrong of what is said of HTTP, with its place.
-const WRONG_OF_HTTP: [(&str, &str); 48] = [
+const WRONG_OF_HTTP: [(&str, &str); 50] = [
     (r#""anonymous":null"#, "/anonymous"),
     (r#""anonymous":"c""#, "/anonymous"),
     (r#""anonymous":"A""#, "/anonymous"),
@@ -145,6 +145,8 @@ const WRONG_OF_HTTP: [(&str, &str); 48] = [
     (r#""collections":["mast",1]"#, "/collections/1"),
     (r#""collections":["Mast","mast"]"#, "/collections/0"),
     (r#""collections":["mast","features"]"#, "/collections/1"),
+    (r#""collections":["features",1]"#, "/collections/0"),
+    (r#""collections":["mast","mast",1]"#, "/collections/1"),
     (
         r#""collections":["mast","road","mast",7]"#,
         "/collections/2",
@@ -289,7 +291,7 @@ fn the_most_keys(rt: HostRuntime) -> Result<(), Fail> {
 }
 
 /// Texts that are wrong outside the policies, with what is written.
-const WRONG: [(&str, &str, &str); 11] = [
+const WRONG: [(&str, &str, &str); 14] = [
     ("", "B1\n", "landmap: B1\n"),
     ("[1,", "B1\n", "landmap: B1\n"),
     ("[]", "B2 at \"\"\n", "landmap: B2\n"),
@@ -322,6 +324,21 @@ const WRONG: [(&str, &str, &str); 11] = [
         r#"{"subjects":[{"name":"a","office":"o","role":"r","steward":1}],"policies":1}"#,
         "B2 at \"/subjects/0/steward\"\n",
         "landmap: B2\n",
+    ),
+    (
+        r#"{"subjects":[{"name":"a","office":"o","role":"r","key":1}],"policies":1}"#,
+        "B2 at \"/subjects/0\"\n",
+        "landmap: B2\n",
+    ),
+    (
+        r#"{"subjects":[{"name":"a","office":"o","role":"r"},{"name":"b","role":1}],"policies":1}"#,
+        "B2 at \"/subjects/1/office\"\n",
+        "landmap: B2\n",
+    ),
+    (
+        r#"{"subjects":[{"name":"a","office":"o","role":"r"},{"name":"b","office":"o","role":"r"},{"name":"b","office":"p","role":"r"},{"name":"a","office":"p","role":"r"}],"policies":1}"#,
+        "N3 at \"/subjects/2/name\"\n",
+        "landmap: N3\n",
     ),
     (
         r#"{"subjects":[],"policies":1}"#,

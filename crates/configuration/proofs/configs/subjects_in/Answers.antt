@@ -1,17 +1,20 @@
-use Rattle.std.proofs.Common.{sym, ◌∙◌}
-use Rattle.configuration.specs.declared.config_faults.ConfigFault.TheVariants as faults
-use Rattle.configuration.proofs.ConfigLemmas.{left_at-more, left_at-fails, left_at-end}
+use Rattle.std.proofs.Common.{ap, sym, ◌∙◌}
+use Rattle.serde_json.specs.View.{view}
+use Rattle.configuration.specs.Configs.{of_form, subject_behind}
+use Rattle.configuration.proofs.ConfigLemmas.{Gives-residual, left_at-more, left_at-fails, left_at-end}
 use Rattle.configuration.proofs.configs.subjects_in.Goals as goal
 
-pub returns-in_default : goal.returns-in_default
-returns-in_default g c =
-    sym c.loop-value.invariant ∙ left_at-fails c.loop-value.subjects.items c.loop-value.value-index c.args.items.now c.value-item.result faults.Form
-    c.loop-value-test.true c.value-item.is (sym c.in_default.ensures)
+pub returns-in_err-subject : goal.returns-in_err-subject
+returns-in_err-subject g c =
+    let read = ap (λ before. subject_behind before (view c.value-item.result)) c.as_slice.ensures.value in
+    Gives-residual _ _ _ _ c.from_residual.ensures.1 (ap of_form (sym c.loop-value.invariant ∙ left_at-fails subject_behind c.loop-value.subjects.items c.loop-value.value-index c.args.items.now
+    c.value-item.result c.in_err-subject.field-0.0 c.loop-value-test.true c.value-item.is (sym (c.in_err-subject.ensures ∙ read))))
 
 pub loop-value-preserved : goal.loop-value-preserved
 loop-value-preserved g c =
-    rw c.in_ok-try_push.ensures.items (left_at-more c.loop-value.subjects.items c.loop-value.value-index c.args.items.now c.value-item.result c.in-Some.subject
-    c.loop-value-test.true c.value-item.is (sym c.in-Some.ensures) ∙ c.loop-value.invariant)
+    let read = ap (λ before. subject_behind before (view c.value-item.result)) c.as_slice.ensures.value in
+    rw c.in_ok-try_push.ensures.items (left_at-more subject_behind c.loop-value.subjects.items c.loop-value.value-index c.args.items.now c.value-item.result c.in_ok-subject.subject
+    c.loop-value-test.true c.value-item.is (sym (c.in_ok-subject.ensures ∙ read)) ∙ c.loop-value.invariant)
 
 pub returns : goal.returns
-returns g c = sym c.loop-value.invariant ∙ left_at-end c.loop-value.subjects.items c.loop-value.value-index c.args.items.now c.loop-value-test.false
+returns g c = ap of_form (sym c.loop-value.invariant ∙ left_at-end subject_behind c.loop-value.subjects.items c.loop-value.value-index c.args.items.now c.loop-value-test.false)
