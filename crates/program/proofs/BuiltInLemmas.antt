@@ -9,7 +9,7 @@ use Rattle.scripts.specs.BuiltIn.{built_in}
 use Rattle.policy_text.specs.Reading.{document_in, zones_at, node_at, policy_at, head_at, rule_at, target_at, when_at, each_at, optional_array_in}
 use Rattle.program.specs.BuiltIn.{built_in_config, open_document}
 use Rattle.configuration.specs.ConfigFaults.{Gives}
-use Rattle.configuration.specs.Configs.{config_data, config_of, config_in, config_from, subject_in, subjects_in, web_in}
+use Rattle.configuration.specs.Configs.{config_data, config_of, config_in, config_from, each, subject_in, subjects_in, web_in}
 use Rattle.configuration.specs.declared.config_faults.ConfigFault.{ConfigFault}
 use Rattle.configuration.specs.declared.configs.Config.{Config}
 
@@ -53,7 +53,7 @@ unfolding document_in zones_at node_at policy_at head_at rule_at target_at when_
 policies-read = refl
 
 subjects-read : subjects_in subjects_value ≡ Ok built_in
-unfolding subjects_in subject_in
+unfolding each subject_in
 subjects-read = refl
 
 value-read : config_in config_value ≡ Ok built_in_config
