@@ -213,6 +213,7 @@ impl<'a, 'h, L: HallName, R: Wait + Drop, A: Allocator + Copy, W: Wait, P: Pause
     }
 
     fn explain(&mut self, question: &Question) -> Reply {
+        self.view.prepare(question);
         match self.view.explain(question) {
             Some(explained) => explained_reply(explained),
             None => hall_reply(HallFault::NotRead),

@@ -21,6 +21,8 @@ mod policy_text_tests;
 #[cfg(test)]
 mod publishing_tests;
 #[cfg(test)]
+mod ready_tests;
+#[cfg(test)]
 mod refusing_tests;
 #[cfg(test)]
 mod view_tests;

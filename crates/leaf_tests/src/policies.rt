@@ -37,7 +37,8 @@ pub fn policy(rt: &impl Abort, heap: Global, edition: u64) -> Arc<Decider>
     decider
 }
 
-fn name(rt: &impl Abort, text: &str) -> Name {
+/// The name of this text.
+pub fn name(rt: &impl Abort, text: &str) -> Name {
     Name::new(text.as_bytes()).expect(rt, "a name")
 }
 

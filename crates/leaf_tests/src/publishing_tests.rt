@@ -38,10 +38,13 @@ enum Watched {
     TooLong,
 }
 
-/// Explains until the last policy is read, at most `ROUNDS` times.
+/// Explains until the last policy is read, at most `ROUNDS` times, every other time prepared.
 fn watch<L: ListName>(mut view: View<L>, question: &Question) -> Watched {
     let mut edition = view.edition();
-    for _ in 0..ROUNDS {
+    for round in 0..ROUNDS {
+        if round % 2 == 0 {
+            view.prepare(question);
+        }
         let Some(explained) = view.explain(question) else {
             return Watched::NothingToRead;
         };

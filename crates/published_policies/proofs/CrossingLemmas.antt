@@ -16,10 +16,11 @@ use Rattle.left_right.proofs.reader.Factory.TheSendSync.{the_field_sync as facto
 use Rattle.left_right.proofs.reader.Reader.TheSendSync.{the_field_send as reader_send}
 use Rattle.left_right.proofs.writer.Writer.TheSendSync.{the_field_send as copies_send}
 use Rattle.logbook.proofs.word.Word.TheSendSync.{the_send as word_send, the_sync as word_sync}
-use Rattle.decision.proofs.CrossingLemmas.{decider_send, decider_sync}
+use Rattle.decision.proofs.CrossingLemmas.{decider_send, decider_sync, in_force_send}
 use Rattle.published_policies.specs.declared.lists.ListName.{Ghosts}
 use Rattle.published_policies.specs.contracts.policies.Policy as policy
 use Rattle.published_policies.specs.contracts.publishers.Publisher as publisher
+use Rattle.published_policies.specs.contracts.ready.ReadyPolicy as ready
 use Rattle.published_policies.specs.contracts.views.View as view
 use Rattle.published_policies.specs.contracts.writers.ListWriter as writer
 use Rattle.published_policies.proofs.seen_lists.SeenList.TheSendSync.{the_send as list_send, the_sync as list_sync}
@@ -29,6 +30,9 @@ policy_send = search (decider_send, decider_sync, list_send, crosses, sendable) 
 
 policy_sync : IsSync policy.the_row
 policy_sync = search (decider_send, decider_sync, list_sync, crosses, sendable) depth 40
+
+ready_send : IsSend ready.the_row
+ready_send = search (in_force_send, list_send, crosses, sendable) depth 40
 
 -- The two tokens of the writer, its seat at the table of both copies and the right to free a copy,
 -- show nothing through a `&`: it holds a part of what they own. So they may be shared where they may
@@ -41,7 +45,7 @@ deed_sync T s = record { shared = λ d b o κ q. part_keyless _ (deed_send T hea
 
 module _ (L : RattleType) (g : Ghosts L.Denot) (name_send : IsSend L) where
   pub view_send : IsSend (view.the_row L g)
-  view_send = search (policy_sync, list_send, reader_send, crosses, sendable) depth 40
+  view_send = search (policy_sync, list_send, ready_send, reader_send, crosses, sendable) depth 40
 
   writer_send : IsSend (writer.the_row L g)
   writer_send = search (policy_send, policy_sync, copies_send, word_send, crosses, sendable) depth 40

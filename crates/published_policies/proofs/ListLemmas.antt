@@ -4,7 +4,8 @@ use Rattle.std.specs.List.{last_or}
 use Rattle.std.proofs.lemmas.List.{take_all, take_at, take-take, take-append-drop}
 use mathlib.Core.List.{IsPrefix}
 use Rattle.decision.specs.Deciders.{DeciderData}
-use Rattle.published_policies.specs.Lists.{AreEditions, IsNextEdition, IsNumbered, edition_of, last_edition}
+use Rattle.logbook.specs.Pages.{Book}
+use Rattle.published_policies.specs.Lists.{AreEditions, IsNextEdition, IsNumbered, SeenData, edition_of, last_edition, seen_in}
 
 module _ {X : Type 0} where
   -- the front of a list, as long as a prefix of it, is that prefix
@@ -109,3 +110,9 @@ added list longer decider len edition count told e = (
   omega (arith, count, ap length e, length-append list (decider ∷ [])),
   told ∙ sym (ap edition_of (ap (last_or None) e ∙ last_push None list decider)),
 )
+
+-- two prefixes of one list, as long as one another
+pub same_seen : (x y : SeenData) → y.book ≡ x.book → (length x.list ≤ length y.list → IsPrefix x.list y.list) → length x.list ≡ length y.list → y ≡ x
+same_seen x y book begins count =
+    let list : x.list ≡ y.list = prefix_whole x.list y.list (begins (omega (arith, count))) (omega (arith, count)) in
+    ap (λ (b : Book). seen_in b y.list) book ∙ ap (seen_in x.book) (sym list)

@@ -22,7 +22,15 @@ pub struct Explained {
 pub(crate) fn explain(decider: &Decider, question: &Question) -> Explained
     ensures { ExplainsBy decider.now question.now result }
 {
-    let ruling = decider.decide(question);
+    told(decider, decider.decide(question))
+}
+
+/// What is told of a ruling of this decider.
+pub(crate) fn told(decider: &Decider, ruling: Ruling) -> Explained
+    ensures edition { result.edition ≡ decider.now.edition }
+    ensures ruling { result.ruling ≡ ruling }
+    ensures rule { result.rule ≡ name_of_rule decider.now (rule_in ruling) }
+{
     let rule = name_of_rule(decider, rule_in(&ruling));
     Explained {
         edition: decider.edition(),

@@ -11,6 +11,7 @@ mod laws;
 mod lists;
 mod policies;
 mod publishers;
+mod ready;
 mod seen_lists;
 mod views;
 mod writers;

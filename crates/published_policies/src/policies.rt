@@ -69,6 +69,15 @@ impl Policy {
         self.list.again()
     }
 
+    /// The policy's decider, with one more owner. Refused only where it has as many owners as can be
+    /// counted.
+    pub(crate) fn shared(&self) -> Result<Arc<Decider>, NoMemory>
+        ensures { IfOk result
+            (λ decider. last_or None self.now.list ≡ Some (arc_value decider)) }
+    {
+        another(&self.decider)
+    }
+
     /// The policy's ruling on a question.
     pub(crate) fn explain(&self, question: &Question) -> Explained
         ensures { Explains self.now.list question.now result }

@@ -1,6 +1,6 @@
 //! Prefixes of a list, as far as it was seen.
 
-ghost use Rattle.std.specs.Prelude.{◌≡◌, ◌⊎◌, ◌≤◌, ◌++◌, ◌∷◌, [], length};
+ghost use Rattle.std.specs.Prelude.{◌≡◌, ◌⊎◌, ◌≤◌, ◌++◌, ◌∷◌, [], length, IsTrue};
 ghost use Rattle.std.specs.Bool.{MatchBool};
 ghost use Rattle.std.specs.Arc.{arc_value};
 ghost use mathlib.Core.List.{IsPrefix};
@@ -82,6 +82,16 @@ impl SeenList {
     {
         let mut both = self.seen.again();
         both.learn(&other.seen);
+    }
+
+    /// Whether two prefixes of one list are the same, by their lengths.
+    #[tactic(auto, using(crate::proofs::ListLemmas::same_seen))]
+    pub(crate) fn is_same(&self, other: &SeenList) -> bool
+        requires { other.now.book ≡ self.now.book }
+        ensures { IsTrue result → other.now ≡ self.now }
+    {
+        self.begins(other);
+        self.len == other.len
     }
 
     /// The longer of two prefixes of one list.

@@ -12,6 +12,7 @@ use crate::editions::Edition;
 use crate::explaining::Explained;
 use crate::lists::ListName;
 use crate::policies::Policy;
+use crate::ready::{ReadyPolicy, made_ready};
 use crate::seen_lists::SeenList;
 use combining::Question;
 use left_right::reader::Reader;
@@ -21,12 +22,14 @@ use std::marker::{Model, PhantomData};
 pub(crate) type CopyReader = Reader<Policy, Option<SeenList>, CopyRule>;
 
 /// A reader of the published policies, for one thread. It asks how the last policy rules, without a
-/// lock, without waiting and without memory. Contracts see the list as far as the view has read it
+/// lock, without waiting and without memory; what it is prepared for is kept in memory. Contracts see the list as far as the view has read it
 /// or was told of it.
 #[derive(Drop)]
 pub struct View<L: ListName> {
     reader: Option<CopyReader>,
     list: SeenList,
+    /// The policy that was prepared for last.
+    ready: Option<ReadyPolicy>,
     name: PhantomData<L>,
 }
 
@@ -49,7 +52,28 @@ impl<L: ListName> Model for View<L> {
     ghost invariant = { λ v. IsSome v.reader
         × IfSome v.reader (λ reader. KnowsOf L.book (known_by {V = Option SeenData} reader.place))
         × (v.list.book ≡ L.book)
+        × IfSome v.ready (λ ready. ready.book ≡ L.book)
         × (0 < length v.list.list) };
+}
+
+/// The ruling on a question of the policy with which this list ends, by what was prepared for it if
+/// that is of this policy.
+fn explained_by(
+    ready: &Option<ReadyPolicy>,
+    policy: &Policy,
+    list: &SeenList,
+    question: &Question,
+) -> Explained
+    requires same { list.now ≡ policy.now }
+    requires book { IfSome ready.now (λ ready. ready.book ≡ list.now.book) }
+    ensures { Explains list.now.list question.now result }
+{
+    if let Some(ready) = ready {
+        if let Some(explained) = ready.explain(list, question) {
+            return explained;
+        }
+    }
+    policy.explain(question)
 }
 
 impl<L: ListName> View<L> {
@@ -62,6 +86,7 @@ impl<L: ListName> View<L> {
         View {
             reader: Some(reader),
             list,
+            ready: None,
             name: PhantomData,
         }
     }
@@ -92,7 +117,7 @@ impl<L: ListName> View<L> {
             Ok(reading) => {
                 let policy = reading.get();
                 let list = policy.list();
-                let explained = policy.explain(question);
+                let explained = explained_by(&self.ready, policy, &list, question);
                 self.reader = Some(reading.leave());
                 // What is read is never older than what the view was told of, but no contract of
                 // the copies says so.
@@ -103,6 +128,27 @@ impl<L: ListName> View<L> {
                 }
             }
         }
+    }
+
+    /// Keeps what is left of the policy that was published last, once all but a feature's shape is
+    /// known, for what the question's subject asks about such features: `explain` then answers
+    /// sooner. Takes memory for it, and keeps nothing where there is none.
+    pub fn prepare(&mut self, question: &Question)
+        ensures { self.new ≡ self.old }
+    {
+        let reading = match self.reader.take().unwrap().enter_as::<Learn>() {
+            Ok(reading) => reading,
+            Err(reader) => {
+                self.reader = Some(reader);
+                return;
+            }
+        };
+        let mut ready = made_ready(self.ready.take(), reading.get());
+        self.reader = Some(reading.leave());
+        if let Some(ready) = &mut ready {
+            ready.prepare(question);
+        }
+        self.ready = ready;
     }
 
     /// Takes in an edition: from now on the view explains by its policy, or by a later one.

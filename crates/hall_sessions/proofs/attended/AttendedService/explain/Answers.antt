@@ -1,4 +1,5 @@
-use Rattle.std.proofs.Common.{◌∙◌, inl, inr, List, refl, ap}
+use Rattle.std.proofs.Common.{◌∙◌, inl, inr, List, refl, ap, subst}
+use mathlib.Core.List.{IsPrefix}
 use Rattle.decision.specs.Deciders.{DeciderData}
 use Rattle.session_lines.specs.Replies.{line}
 use Rattle.hall_sessions.specs.Sessions.{session}
@@ -15,7 +16,7 @@ returns-in-Some g c =
       refl,
       refl,
       inr (record {
-        before = told.later;
+        before = subst (λ (known : List DeciderData). IsPrefix known c.explain.new.self) c.prepare.ensures told.later;
         published = told.published;
         decider = by.decider;
         last = by.last;
@@ -29,4 +30,4 @@ returns-in-Some g c =
 pub returns-in-None : goal.returns-in-None
 returns-in-None g c =
     let s = c.args.self.now in
-    (refl, refl, refl, refl, inl (ap (λ (view : List DeciderData). session s.earlier s.seats.now.items view) c.in-None.ensures.none, ap line c.hall_reply.ensures))
+    (refl, refl, refl, refl, inl (ap (λ (view : List DeciderData). session s.earlier s.seats.now.items view) (c.in-None.ensures.none ∙ c.prepare.ensures), ap line c.hall_reply.ensures))

@@ -9,6 +9,6 @@ enter_as-requires g c shown = learns _ _ shown shown refl (prefix_self shown.lis
 
 pub returns-then-advance-clause-edition : goal.returns-then-advance-clause-edition
 returns-then-advance-clause-edition g c =
-    let told = c.explain-explained.ensures in
-    let last : last_edition c.list-list.result.list ≡ told.decider.edition = ap edition_of (rw (← c.list-list.ensures.list) at told.last) in
+    let told = c.explained_by-explained.ensures in
+    let last : last_edition c.list-list.result.list ≡ told.decider.edition = ap edition_of told.last in
     told.explains.edition ∙ sym last ∙ sym (ap (λ read. last_edition read.list) c.if-advance.ensures.0)

@@ -1,0 +1,2 @@
+pub use questions :: Question ;
+mod questions ;

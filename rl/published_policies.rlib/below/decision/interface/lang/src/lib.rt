@@ -1,0 +1,12 @@
+pub use deciders :: Decider ;
+pub use in_force :: InForce ;
+pub use rulings :: Ruling ;
+mod deciders ;
+mod folding ;
+mod in_force ;
+mod known ;
+mod plan_nodes ;
+mod plans ;
+mod readings ;
+mod rests ;
+mod rulings ;

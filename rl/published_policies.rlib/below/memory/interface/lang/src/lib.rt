@@ -1,0 +1,3 @@
+pub use no_memory :: NoMemory ;
+pub use no_memory :: NotStored ;
+mod no_memory ;

@@ -1,0 +1,4 @@
+pub use shape :: Shape ;
+mod fault ;
+mod point ;
+mod shape ;

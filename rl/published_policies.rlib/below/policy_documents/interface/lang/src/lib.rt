@@ -1,0 +1,11 @@
+pub use algorithms :: Algorithm ;
+pub use algorithms :: Effect ;
+pub use documents :: Document ;
+pub use matches :: Conditions ;
+pub use matches :: Target ;
+mod algorithms ;
+mod documents ;
+mod matches ;
+mod nodes ;
+mod rules ;
+mod zones ;

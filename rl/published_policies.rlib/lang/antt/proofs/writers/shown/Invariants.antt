@@ -1,0 +1,7 @@
+use Rattle.std.proofs.Common.{◌≡◌, [], ◌∷◌, drop}
+use Rattle.published_policies.proofs.writers.shown.Given as goal
+
+abbrev pub invariant-loop : goal.invariant-loop
+invariant-loop g l =
+    (goal.iterator-loop g).can_next l.iterator' × (goal.iterator-loop g).is_finite l.iterator'
+    × (l.copies.desk.shown.value ≡ l.fn.copies.desk.shown.value) × (drop l.copies.behind l.copies.log.items ≡ l.fn.list ∷ [])

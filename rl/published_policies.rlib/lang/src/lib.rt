@@ -1,0 +1,18 @@
+mod copies ;
+mod editions ;
+mod explaining ;
+mod growing ;
+mod laws ;
+mod lists ;
+mod policies ;
+mod publishers ;
+mod ready ;
+mod seen_lists ;
+mod views ;
+mod writers ;
+pub use editions :: Edition ;
+pub use explaining :: Explained ;
+pub use laws :: caught_up_then_explained ;
+pub use lists :: { EmptyList , ListName } ;
+pub use publishers :: { NoMemoryForPolicies , Publisher } ;
+pub use views :: View ;
