@@ -147,6 +147,25 @@ fn rows_are_settled(rt: HostRuntime) -> Result<(), Fail> {
     imports(&rt, rt.alloc(), whole, table, "", "3,,K3,,byte 8\n", false)
 }
 
+/// An import that is to be whole ends behind a row that the server refuses.
+#[test]
+fn a_refused_row_ends_it(rt: HostRuntime) -> Result<(), Fail> {
+    let whole = Plan {
+        whole: true,
+        ..plan()
+    };
+    let table = "WKT,id,class\n\"POINT (1 2)\",7,x\n\"POINT (3 4)\",13,x\n";
+    imports(
+        &rt,
+        rt.alloc(),
+        whole,
+        table,
+        "1 7 POINT (1 2);2 13 POINT (3 4);\n",
+        "2,13,denied,harbour,\n",
+        false,
+    )
+}
+
 #[test]
 fn features_are_numbered_and_cut(rt: HostRuntime) -> Result<(), Fail> {
     let file =

@@ -14,6 +14,8 @@ mod memory_streams;
 #[cfg(test)]
 mod relay_tests;
 #[cfg(test)]
+mod seat_tests;
+#[cfg(test)]
 mod servers;
 #[cfg(test)]
 mod socket_tests;

@@ -27,7 +27,7 @@ pub fn open_document(rt: &impl Abort, heap: Global) -> Document<Global> {
 }
 
 /// A subject whose name, office and role are equal.
-fn subject(rt: &impl Abort, name: &[u8], steward: bool) -> Subject {
+pub fn subject(rt: &impl Abort, name: &[u8], steward: bool) -> Subject {
     let name = Name::new(name).expect(rt, "a name");
     Subject {
         name,

@@ -1,12 +1,16 @@
 //! HTTP beside sessions of lines.
 use crate::clients::{Talk, connected};
-use crate::servers::serving;
+use crate::kept_tests::{Deeds, Unopened, keeping};
+use crate::servers::{first_state, serving};
 use features::Name;
 use grid::{Between, Grid};
 use log::Log;
 use map_metrics::Tally;
 use map_pages::Site;
-use server::{Connections, ServerFault, SocketOptions, Stop, Web, WebPlace, serve_socket};
+use server::{
+    Connections, Rests, ServerFault, SocketOptions, Stop, StoreFault, Web, WebPlace, serve_kept,
+    serve_socket,
+};
 use std::alloc::Global;
 use std::fs::{File, Files};
 use std::hash::RandomState;
@@ -18,7 +22,7 @@ use std::sync::Wait;
 use std::test::Fail;
 use std::thread::Threads;
 use std::time::{Clock, Duration};
-use std::{fs, str, thread};
+use std::{fs, io, str, thread};
 
 /// How many requests a client makes on one connection, each of them 20 milliseconds behind the one
 /// before it: in that time halls of three records change several times.
@@ -216,6 +220,230 @@ fn no_place_for_http(rt: HostRuntime) -> Result<(), Fail> {
     assert!(rt;
         fs::symlink_metadata(&rt, path).is_err(),
         "the path is free"
+    );
+    Ok(())
+}
+
+/// What the pages of a test speak of.
+#[derive(Drop)]
+struct Pages {
+    grid: Grid,
+    classes: [Name; 1],
+}
+
+impl Pages {
+    fn new(rt: &impl Abort) -> Self {
+        Pages {
+            grid: degrees(rt),
+            classes: [Name::new(b"mast").expect(rt, "a name")],
+        }
+    }
+
+    /// A site with this map.
+    fn site<'a>(&'a self, map: &'a [u8]) -> Site<'a> {
+        Site {
+            base: b"http://localhost",
+            grid: &self.grid,
+            classes: &self.classes,
+            map,
+        }
+    }
+}
+
+/// A connection whose reads wait for ten seconds at most.
+fn patient<R: Net + Abort>(rt: &R, path: &str) -> UnixStream {
+    let stream = connected(rt, path).expect(rt, "a connection");
+    let set = stream.set_read_timeout(Some(Duration::from_secs(10)));
+    assert!(rt; set.is_ok());
+    stream
+}
+
+/// Serves by HTTP, as `web` says, until the clients have ended.
+fn serve_clients<H, R, F: FnOnce() + Send>(
+    rt: &R,
+    own: H,
+    heap: Global,
+    paths: (&str, &str),
+    web: Web<'_>,
+    clients: F,
+)
+where
+    H: Wait + Copy + Drop + Send + Sync,
+    R: Threads
+        + Wait
+        + Clock
+        + Log
+        + Files<File = File>
+        + Net<Stream = TcpStream, Listener = TcpListener>
+        + Print
+        + Abort
+        + Sync,
+{
+    let (path, web_path) = paths;
+    let _ = fs::remove_file(rt, path);
+    let _ = fs::remove_file(rt, web_path);
+    let serving = serving(rt, heap);
+    let stop = Stop::new();
+    let (served, ()) = thread::join(
+        rt,
+        || serve_socket(rt, own, heap, path, serving, with_web(&stop, &web)),
+        || {
+            clients();
+            stop.ask();
+            let _ = UnixStream::connect(rt, path);
+        },
+    );
+    assert!(rt; served.is_ok());
+}
+
+/// A connection on which nothing comes is let go; one whose requests come in time is not, however
+/// long it lasts.
+#[test]
+fn who_says_nothing_is_let_go(rt: HostRuntime) -> Result<(), Fail> {
+    let paths = ("server_web_late_lines.sock", "server_web_late.sock");
+    let pages = Pages::new(&rt);
+    let site = pages.site(b"");
+    let tally = Tally::new();
+    let random = RandomState::new(&rt)?;
+    let web = Web {
+        patience: 500,
+        ..web(WebPlace::Path(paths.1), &site, &tally, random, 2)
+    };
+    serve_clients(&rt, rt, rt.alloc(), paths, web, || {
+        let silent = patient(&rt, paths.1);
+        let busy = patient(&rt, paths.1);
+        for _ in 0..10 {
+            assert!(&rt; is_told(&busy, MASTS, "HTTP/1.1 200"));
+            thread::sleep(&rt, Duration::from_millis(200));
+        }
+        assert!(&rt;
+            io::read_to_string(rt.alloc(), silent).is_ok(),
+            "it is let go"
+        );
+    });
+    Ok(())
+}
+
+/// A client that takes nothing of an answer that is longer than what lies between it and the server
+/// is let go, and the one worker answers others.
+#[test]
+fn who_takes_nothing_is_let_go(rt: HostRuntime) -> Result<(), Fail> {
+    let paths = ("server_web_deaf_lines.sock", "server_web_deaf.sock");
+    let pages = Pages::new(&rt);
+    let map = "landmap ".repeat(rt.alloc(), 500_000).expect(&rt, "a map");
+    let site = pages.site(map.as_bytes());
+    let tally = Tally::new();
+    let random = RandomState::new(&rt)?;
+    let web = Web {
+        patience: 1_000,
+        ..web(WebPlace::Path(paths.1), &site, &tally, random, 1)
+    };
+    serve_clients(&rt, rt, rt.alloc(), paths, web, || {
+        let deaf = patient(&rt, paths.1);
+        let mut asks = &deaf;
+        let asked = asks.write_all(b"GET /map HTTP/1.1\r\nHost: localhost\r\n\r\n");
+        assert!(&rt; asked.is_ok());
+        thread::sleep(&rt, Duration::from_millis(200));
+        let other = patient(&rt, paths.1);
+        assert!(&rt; is_told(&other, MASTS, "HTTP/1.1 200"));
+        drop(deaf);
+    });
+    Ok(())
+}
+
+/// A request for all masts, of a subject that a proxy names.
+const OF_NORTH: &[u8] =
+    b"GET /collections/mast/items HTTP/1.1\r\nHost: localhost\r\nlandmap-subject: north\r\n\r\n";
+
+/// What a proxy says of who asks is believed where that is wanted, and nowhere else.
+#[test]
+fn a_proxy_says_who_asks(rt: HostRuntime) -> Result<(), Fail> {
+    let paths = ("server_web_proxy_lines.sock", "server_web_proxy.sock");
+    let pages = Pages::new(&rt);
+    let site = pages.site(b"");
+    let tally = Tally::new();
+    for (trusted_field, wanted) in [(true, "HTTP/1.1 200"), (false, "HTTP/1.1 400")] {
+        let random = RandomState::new(&rt)?;
+        let web = Web {
+            trusted_field,
+            ..web(WebPlace::Path(paths.1), &site, &tally, random, 1)
+        };
+        serve_clients(&rt, rt, rt.alloc(), paths, web, || {
+            assert!(&rt; is_told(&patient(&rt, paths.1), OF_NORTH, wanted));
+        });
+    }
+    Ok(())
+}
+
+/// A request that adds a mast.
+const ADDED: &[u8] =
+    b"POST /collections/features/items HTTP/1.1\r\nHost: localhost\r\nContent-Type: application/geo+json\r\nContent-Length: 120\r\n\r\n{\"type\":\"Feature\",\"id\":1,\"geometry\":{\"type\":\"Point\",\"coordinates\":[7.0000010,46.0000020]},\"properties\":{\"class\":\"mast\"}}";
+
+/// Adds a mast by HTTP to a server with a store. Whether it was told that it is there, and whether the
+/// server ended well.
+fn added_by<H, R>(rt: &R, own: H, heap: Global, deeds: &Deeds, random: RandomState) -> (bool, bool)
+where
+    H: Wait + Copy + Drop + Send + Sync,
+    R: Threads
+        + Wait
+        + Clock
+        + Log
+        + Files<File = File>
+        + Net<Stream = TcpStream, Listener = TcpListener>
+        + Print
+        + Abort
+        + Sync,
+{
+    let (path, web_path) = ("server_web_kept_lines.sock", "server_web_kept.sock");
+    let _ = fs::remove_file(rt, path);
+    let _ = fs::remove_file(rt, web_path);
+    let pages = Pages::new(rt);
+    let site = pages.site(b"");
+    let tally = Tally::new();
+    let web = web(WebPlace::Path(web_path), &site, &tally, random, 1);
+    let unopened = Unopened::new(Ok(first_state(rt, heap)), deeds);
+    let keeping = keeping(rt, Rests::All);
+    let stop = Stop::new();
+    let (served, told) = thread::join(
+        rt,
+        || {
+            serve_kept(
+                rt,
+                own,
+                heap,
+                path,
+                keeping,
+                with_web(&stop, &web),
+                unopened,
+            )
+        },
+        || {
+            let told = is_told(&patient(rt, web_path), ADDED, "HTTP/1.1 201");
+            stop.ask();
+            let _ = UnixStream::connect(rt, path);
+            told
+        },
+    );
+    match served {
+        Ok(_) => (told, true),
+        Err(fault) => {
+            assert_eq!(rt; fault, ServerFault::Store(StoreFault::Failed));
+            (told, false)
+        }
+    }
+}
+
+/// An answer by HTTP leaves once its record lasts, and not where it does not.
+#[test]
+fn an_answer_waits_for_its_record(rt: HostRuntime) -> Result<(), Fail> {
+    let random = RandomState::new(&rt)?;
+    let deeds = Deeds::new(1, 1);
+    assert_eq!(&rt; added_by(&rt, rt, rt.alloc(), &deeds, random), (true, true));
+    assert_eq!(&rt; deeds.lasting(), 1);
+    let deeds = Deeds::new(0, 0);
+    assert_eq!(&rt;
+        added_by(&rt, rt, rt.alloc(), &deeds, random),
+        (false, false)
     );
     Ok(())
 }

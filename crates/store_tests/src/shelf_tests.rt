@@ -8,12 +8,14 @@ use plane::{Point, Shape};
 use policy_documents::Document;
 use policy_text::read_document;
 use scripts::run_kept_script;
-use shelf::{Beginning, Found, Shelf, ShelfFault};
+use shelf::{Beginning, Cause, Found, Shelf, ShelfFault};
+use sqlite_trees::error::StoreError;
 use std::alloc::{AllocError, Global};
 use std::fs;
 use std::process::Abort;
 use std::sync::Arc;
 use std::test::Fail;
+use volumes::VolumeFault;
 use world::{Base, Limits, Starts, World};
 
 /// A document that permits everything.
@@ -172,6 +174,22 @@ fn one_at_a_time(rt: HostRuntime) {
     }
     drop(first);
     assert!(&rt; opened(&rt, &policy, folder).is_ok());
+}
+
+/// What a store says of a file.
+fn said(rt: &impl Abort, heap: Global, error: StoreError) -> ShelfFault {
+    let path = "store/0000000001.db".repeat(heap, 1).expect(rt, "memory");
+    ShelfFault::Unusable(path, Cause::Volume(VolumeFault::Store(error)))
+}
+
+/// A disk that is full is asked again; one that fails is not.
+#[test]
+fn want_of_room_passes(rt: HostRuntime) {
+    let heap = rt.alloc();
+    assert!(&rt; said(&rt, heap, StoreError::Full).is_passing());
+    assert!(&rt; said(&rt, heap, StoreError::OutOfMemory).is_passing());
+    assert!(&rt; !said(&rt, heap, StoreError::Corrupt).is_passing());
+    assert!(&rt; !said(&rt, heap, StoreError::Io).is_passing());
 }
 
 #[test]

@@ -117,6 +117,21 @@ fn ids_at_the_ends(rt: HostRuntime) -> Result<(), Fail> {
     Ok(())
 }
 
+/// A volume that goes on behind another one begins with the features that there were.
+#[test]
+fn begins_with_features(rt: HostRuntime) {
+    let heap = rt.alloc();
+    let mut volume = match Volume::new(memory_store(&rt, heap), heap, TABLES, 8) {
+        Ok(volume) => volume,
+        Err((fault, _)) => panic!(&rt; "no volume: {fault}"),
+    };
+    let there = [feature(&rt, 3, 2, 4), feature(&rt, 7, 5, 6)];
+    let decider = decider(&rt, heap, OPEN, 2);
+    let begun = volume.begin(heap, &there, 5, &decider, 1, "[]");
+    assert!(&rt; begun.is_ok(), "{begun:?}");
+    keeps(&rt, heap, &mut volume, &there);
+}
+
 #[test]
 fn misfits_leave_all_as_it_was(rt: HostRuntime) -> Result<(), Fail> {
     let heap = rt.alloc();
