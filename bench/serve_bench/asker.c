@@ -1,8 +1,8 @@
 // Clients that ask, each over a connection of its own, and wait for the answer before they ask again.
 // asker SOCKET CLIENTS SECONDS BATCH FILE [HELLO]
-// The lines of FILE are asked in turn, BATCH at a time; HELLO is a line asked first, beside the time that is taken. The reply
-// `rows N` has N lines behind it. It prints requests a second, the 50th and the 99th percentile of a batch in microseconds, and the
-// mean bytes of a reply.
+// The lines of FILE are asked in turn, BATCH at a time; HELLO is a line asked first, beside the time that is taken. A line that ends
+// with a backslash is one request with the line behind it: both are sent at once. The reply `rows N` has N lines behind it. It prints
+// requests a second, the 50th and the 99th percentile of a batch in microseconds, and the mean bytes of what a request is answered.
 #define _GNU_SOURCE
 #include <pthread.h>
 #include <stdio.h>
@@ -15,8 +15,15 @@
 
 enum { MOST_CLIENTS = 64, MOST_TIMES = 1 << 21 };
 
-static char *path, *hello, **lines;
-static size_t line_count;
+struct request {
+    char *text;
+    size_t length;
+    int replies;
+};
+
+static char *path, *hello;
+static struct request *requests_of_file;
+static size_t request_count;
 static int batch;
 static double seconds;
 
@@ -88,16 +95,16 @@ static void *ask(void *argument) {
     double begun = now(), last = begun;
     while (last - begun < seconds && client->count < MOST_TIMES) {
         size_t length = 0;
+        int replies = 0;
         for (int i = 0; i < batch; i++, at++) {
-            char *line = lines[at % line_count];
-            size_t line_length = strlen(line);
-            memcpy(request + length, line, line_length);
-            length += line_length;
-            request[length++] = '\n';
+            struct request *next = &requests_of_file[at % request_count];
+            memcpy(request + length, next->text, next->length);
+            length += next->length;
+            replies += next->replies;
         }
         double start = now();
         send_all(peer, request, length);
-        client->bytes += read_replies(peer, batch);
+        client->bytes += read_replies(peer, replies);
         last = now();
         client->times[client->count++] = (last - start) * 1e6;
         client->requests += batch;
@@ -112,18 +119,35 @@ static int compare(const void *one, const void *other) {
     return (a > b) - (a < b);
 }
 
-static void read_lines(const char *name) {
+// Adds a line to the last request, if that goes on, or else to a new one. Whether the request goes on behind it.
+static int add_line(char *line, size_t length, int goes_on) {
+    static size_t room;
+    if (length > 0 && line[length - 1] == '\n') length--;
+    int more = length > 0 && line[length - 1] == '\\';
+    if (more) length--;
+    if (!goes_on) {
+        if (request_count == room)
+            requests_of_file = realloc(requests_of_file, (room = room ? 2 * room : 1024) * sizeof *requests_of_file);
+        requests_of_file[request_count++] = (struct request){0};
+    }
+    struct request *last = &requests_of_file[request_count - 1];
+    last->text = realloc(last->text, last->length + length + 1);
+    memcpy(last->text + last->length, line, length);
+    last->length += length;
+    last->text[last->length++] = '\n';
+    last->replies++;
+    return more;
+}
+
+static void read_requests(const char *name) {
     FILE *file = fopen(name, "r");
     if (!file) fail(name);
-    size_t room = 0;
     char *line = 0;
-    size_t line_room = 0;
+    size_t room = 0;
     ssize_t length;
-    while ((length = getline(&line, &line_room, file)) > 0) {
-        if (line[length - 1] == '\n') line[length - 1] = 0;
-        if (line_count == room) lines = realloc(lines, (room = room ? 2 * room : 1024) * sizeof *lines);
-        lines[line_count++] = strdup(line);
-    }
+    int goes_on = 0;
+    while ((length = getline(&line, &room, file)) > 0) goes_on = add_line(line, length, goes_on);
+    free(line);
     fclose(file);
 }
 
@@ -133,7 +157,7 @@ int main(int count, char **words) {
     int clients = atoi(words[2]);
     seconds = atof(words[3]);
     batch = atoi(words[4]);
-    read_lines(words[5]);
+    read_requests(words[5]);
     hello = count > 6 ? words[6] : 0;
     pthread_t threads[MOST_CLIENTS];
     struct client all[MOST_CLIENTS] = {0};

@@ -118,7 +118,7 @@ def told(name, server, seconds, askers, before, extra=""):
     share = (processor(server) - before) / seconds
     rate = sum(answer[0] for answer in answers)
     middle, late = (sorted(answer[at] for answer in answers)[len(answers) // 2] for at in (1, 2))
-    print(f"{name:44} {rate:8.0f} lines a second, {middle:7.1f} us, {late:8.1f} us, {share:4.2f} processors{extra}", flush=True)
+    print(f"{name:44} {rate:8.0f} requests a second, {middle:7.1f} us, {late:8.1f} us, {share:4.2f} processors{extra}", flush=True)
 
 
 def main():
@@ -162,7 +162,7 @@ def measure(path, server, features, seconds):
             nine = searches(features, 5000)
             for at in range(20_000):
                 lines += nine[(9 * at) % 4991:(9 * at) % 4991 + 9]
-                lines += [f"ADD {100_000_000 * (clients * 20 + client + 1) + at} mast {point(chance)}", "COMMIT"]
+                lines += [f"ADD {100_000_000 * (clients * 20 + client + 1) + at} mast {point(chance)}\\", "COMMIT"]
             files.append(written(f"mixed{client}", lines))
         before = processor(server)
         told(f"{clients} clients, nine searches to one commit", server, seconds, [asker(path, seconds, file) for file in files], before)
