@@ -20,9 +20,10 @@ script "ADD 1 mast POINT (3 4)" COMMIT "ADD 2 mast POINT (3 4)" -- staged "appli
 script "SEARCH POINT (3 4)" "DELETE 1 1" COMMIT "SEARCH POINT (3 4)" -- "rows 1" "1 1 north mast POINT (3 4)" staged "applied 2" "rows 0"
 grep -q "life 2, 1 features, edition 1, next record 2" script.err || fail "the second life says $(cat script.err)"
 
-# A server: what it answered is there after it is killed, again and again.
+# A server: what it answered is there after it is killed, again and again, be it a search that found nothing: each reply waits for its
+# record. The first three have an end, the others have none.
 for ((life = 1; life <= 5; life++)); do
-    server "life$life" map.sock --connections 8 --store store --takeover
+    server "life$life" map.sock $([ "$life" -gt 3 ] || echo --connections 8) --store store --takeover
     client "client$life" map.sock
     ask "client$life" "HELLO north" "hello north"
     for ((id = life * 10; id < life * 10 + life; id++)); do
@@ -34,6 +35,7 @@ for ((life = 1; life <= 5; life++)); do
     begin other script --store store -
     ended other 1
     complains other "landmap: Q1 store"
+    ask "client$life" "SEARCH POINT (900 900)" "rows 0"
     for gone in "life$life" "client$life"; do
         kill -KILL "${started[$gone]}"
         wait "${started[$gone]}" 2> /dev/null
@@ -48,6 +50,9 @@ ended last 0
 
 # The store as text, and whether it is right.
 [ "$("$program" store export store --features | wc -l)" = 15 ] || fail "it does not export 15 features"
+[ "$("$program" store export store --features | head -n 1)" = '10,3,north,mast,"POINT (5 6)"' ] ||
+    fail "the first feature is $("$program" store export store --features | head -n 1)"
+[ "$("$program" store export store | grep '"kind":"answered"' | grep -c "POINT (900 900)")" = 5 ] || fail "not each search that was answered is kept"
 [ "$("$program" store export store | grep -c '"kind":"applied"')" = 17 ] || fail "it does not export 17 lists"
 [[ $("$program" store check store) == "right: 1 volumes, "* ]] || fail "the store is not right: $("$program" store check store 2>&1)"
 [[ $("$program" store list store) == "volume 1: lives 1 to 8, "* ]] || fail "it lists $("$program" store list store)"

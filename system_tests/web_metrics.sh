@@ -37,11 +37,19 @@ counts landmap_searches_total\ 2 "landmap_commits_total $applied" "landmap_denie
     'landmap_http_requests_total{status="403"} 1' 'landmap_http_requests_total{status="404"} 1' \
     "landmap_records_total $((2 + applied + denied + 1))" landmap_policies_total\ 0 landmap_commits_held_total\ 0 \
     'landmap_http_request_seconds_bucket{le="+Inf"} 5' landmap_http_request_seconds_count\ 5
+# Each of the five took some microseconds at least, and no second.
+sum=$(sed -n 's/^landmap_http_request_seconds_sum //p' <<< "$body")
+awk -v sum="$sum" 'BEGIN { exit !(sum >= 0.00005 && sum < 5) }' || fail "five requests took ${sum:-no} seconds"
 # Its memory is measured: some mebibytes.
 bytes=$(sed -n 's/^process_resident_memory_bytes //p' <<< "$body")
 ((${bytes:-0} > 1048576 && bytes < 1073741824)) || fail "its memory is ${bytes:-not told}"
 # Each bucket has those below it, so the numbers rise.
 grep '_bucket' <<< "$body" | sed 's/.* //' | sort -nc || fail "the buckets do not rise: $body"
+# A policy counts, and its record.
+records=$(sed -n 's/^landmap_records_total //p' <<< "$body")
+told=$(talk map.sock "HELLO ines $secret" 'POLICY {"root": {"policy": "all", "combine": "permit-unless-deny", "rules": []}}' BYE)
+[[ $told == *"edition 2"* ]] || fail "the policy: $told"
+counts landmap_policies_total\ 1 "landmap_records_total $((records + 1))"
 # A reader that asks for the head alone gets no body.
 request HEAD /metrics "" "Authorization: Bearer ines.$secret"
 [[ $status == "200 OK" && -z $body ]] || fail "its head: $status $body"
