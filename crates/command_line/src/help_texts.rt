@@ -18,9 +18,9 @@ ends; `landmap serve --help` has the options of a server, and its codes;
 `landmap connect --help` tells how to talk to a server. `landmap check` looks at
 a configuration alone; `landmap draw` makes a picture of a script; `landmap
 export` and `landmap import` bring features out of a server into a file, and
-back; `landmap secret` makes a secret by which a subject asks by HTTP; `landmap
-man` and `landmap completions` print the manual page, and what a shell needs to
-complete command lines.
+back; `landmap secret` makes a secret by which a subject says who it is;
+`landmap man` and `landmap completions` print the manual page, and what a shell
+needs to complete command lines.
 
 Exit status:
   0  what was asked is done
@@ -143,8 +143,8 @@ that was killed leaves one. Whatever else is there stays, and the socket cannot
 be bound. To find out whether somebody listens it connects, which uses up one
 connection of a server that does.
 
-A client is whoever its HELLO says. Who may connect is up to the rights of the
-socket's folder.
+A client is whoever its HELLO says; where the configuration has keys, HELLO says
+a secret too. Who may connect is up to the rights of the socket's folder.
 
 With --http ADDRESS:PORT, as 127.0.0.1:8080 or [::1]:8080, or --http-socket PATH
 HTTP is answered as well, so that GIS programs and browsers read the features as
@@ -171,7 +171,7 @@ pub(crate) const HTTP_HELP: &str = "Also answers HTTP at this address of the mac
 
 pub(crate) const HTTP_SOCKET_HELP: &str = "Also answers HTTP on this socket, for a proxy";
 
-pub(crate) const HTTP_WORKERS_HELP: &str = "How many of HTTP at a time, 1 to 1024 [default: 8]";
+pub(crate) const HTTP_WORKERS_HELP: &str = "How many of HTTP at a time, 1 to 1023 [default: 8]";
 
 pub(crate) const SERVE_EXAMPLES: &str = r#"Examples:
   `landmap serve --socket map.sock` writes
@@ -501,15 +501,17 @@ Exit status:
      `landmap: cannot write`, or `landmap: V4` (no memory)
   2  the command line is wrong";
 
-pub(crate) const SECRET_ABOUT: &str = "Makes a secret by which a subject asks by HTTP";
+pub(crate) const SECRET_ABOUT: &str = "Makes a secret by which a subject says who it is";
 
-pub(crate) const SECRET_LONG_ABOUT: &str = r#"Makes a secret by which a subject asks by HTTP.
+pub(crate) const SECRET_LONG_ABOUT: &str =
+    r#"Makes a secret by which a subject says who it is, in a session and by HTTP.
 
 It is drawn from the randomness of the machine, and two lines are printed: the
 secret, 43 letters, digits, `-` and `_`; and the entry for the configuration,
 which goes into the list `"keys"`. The entry has only the digest (SHA-256) of
 the secret, which nobody can turn back. The secret is shown this once and stored
-nowhere: hand the first line over, and keep it out of files and histories.
+nowhere: hand the first line over. Keep it in a file that its owner alone may
+read, and out of histories.
 
 NAME is one of the subjects of the configuration. A secret is replaced by adding
 a second key of the subject, and taken back by removing its key; the server

@@ -477,18 +477,14 @@ fn sent_import(
     input: &mut File,
     errors: &mut Stderr,
 ) -> Result<(), ExitCode> {
+    let heap = rt.alloc();
     let hello = greeting(rt, subject, errors)?;
+    let hello = hello.as_slice();
     let Ok((mut reader, mut writer)) = connected(rt, socket) else {
         return Err(fail(&ProgramFault::CannotConnect(socket), errors));
     };
-    let mut peer = Peer::new(rt.alloc());
-    if let Err(fault) = greet(
-        rt.alloc(),
-        hello.as_slice(),
-        &mut peer,
-        &mut reader,
-        &mut writer,
-    ) {
+    let mut peer = Peer::new(heap);
+    if let Err(fault) = greet(heap, hello, &mut peer, &mut reader, &mut writer) {
         return Err(tell_export(&fault, errors));
     }
     let mut server = Server {

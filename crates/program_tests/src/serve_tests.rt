@@ -410,7 +410,7 @@ fn help_of_servers(rt: HostRuntime) -> Result<(), Fail> {
             "Accepts nobody once standard input ends\n",
             "\n      --http <ADDRESS:PORT>\n          Also answers HTTP at this address of the machine\n",
             "Also answers HTTP on this socket, for a proxy\n",
-            "How many of HTTP at a time, 1 to 1024 [default: 8]\n",
+            "How many of HTTP at a time, 1 to 1023 [default: 8]\n",
             "The most features, 1 to 4000000 [default: 100000]\n",
             "docs/HTTP.md tells what is answered",
             "\n  `landmap serve --socket map.sock` writes\n\n    listening map.sock\n",
