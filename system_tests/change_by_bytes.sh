@@ -27,9 +27,9 @@ input=input server one map.sock --workers 2 --until-stdin-ends
 rm told
 # The change begins within a second, and is over within some more.
 sleep 3
-first=$(talk map.sock "HELLO chief" ROLL BYE | sed -n 's/.*"number":\([0-9]*\),.*/\1/p' | head -n 1)
+first=$(talk map.sock "HELLO chief" "SEARCH POINT (-10000000 -10000000)" ROLL BYE | sed -n 's/.*"number":\([0-9]*\),.*/\1/p' | head -n 1)
 [ "${first:-0}" -gt 128 ] || fail "the hall was not changed: its first record is ${first:-none}"
 lives one || fail "it has ended: $(cat one.err)"
 exec {keeps}>&-
 ended one 0
-told one "listening map.sock" "closed 628 records"
+told one "listening map.sock" "closed 629 records"

@@ -8,7 +8,7 @@ held+=("$keeps")
 input=input server one map.sock --workers 6 --store store --wait changes --until-stdin-ends
 client stays map.sock
 ask stays "HELLO south" "hello south"
-say stays "ADD 7 parcel POLYGON ((0 0, 9 0, 9 9))" "ADD 8 road LINESTRING (3 4, 5 6)" COMMIT "ADD 9 mast POINT (3 4)" COMMIT
+say stays "ADD 7 parcel POLYGON ((0 0, 9 0, 9 9, 0 0))" "ADD 8 road LINESTRING (3 4, 5 6)" COMMIT "ADD 9 mast POINT (3 4)" COMMIT
 hear stays staged staged "applied 1" staged "applied 2"
 {
     echo "HELLO north"
@@ -40,7 +40,7 @@ wanted='7,1,south,parcel,"POLYGON ((0 0, 9 0, 9 9, 0 0))"
 [ "$("$program" store export store --features)" = "$wanted" ] || fail "the features are $("$program" store export store --features)"
 [ "$("$program" store export store | wc -l)" = 264004 ] || fail "not all records are there: $("$program" store export store | wc -l)"
 # The next start goes on from there, in the same volume.
-told=$(printf 'n: %s\n' "HELLO south" "SEARCH POINT (3 4)" "RESHAPE 10 4 POINT (7 7)" COMMIT |
+told=$(printf 'n: %s\n' "HELLO south" "SEARCH POLYGON ((0 0, 9 0, 9 9, 0 9, 0 0))" "RESHAPE 10 4 POINT (7 7)" COMMIT |
     "$program" script --store store - 2> script.err) || fail "a script: status $?: $(cat script.err)"
 [ "$told" = "$(printf 'n: %s\n' "hello south" "rows 2" "7 1 south parcel POLYGON ((0 0, 9 0, 9 9, 0 0))" "9 2 south mast POINT (3 4)" \
     staged "applied 5")" ] || fail "a script says $told"
