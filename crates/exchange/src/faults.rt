@@ -110,7 +110,7 @@ pub enum RowFault {
     Several,
     /// P1 to P9: the points make no shape.
     Shape(ShapeFault),
-    /// L1 to L3, P1 to P7: a line or a region cannot be cut.
+    /// L1 to L3, P1 to P7: a line or a region cannot be cut; P4 also where there is none.
     Parts(PartsFault),
     /// Out of memory.
     Memory,

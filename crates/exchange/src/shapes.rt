@@ -67,7 +67,8 @@ fn put_region<A: Allocator + Copy>(
 }
 
 /// The shapes into which a geometry is cut: points as they are, the segments of lines, and the
-/// convex parts of regions less their holes.
+/// convex parts of regions less their holes. `Parts` with `TooFew` where there are none: a row that
+/// adds nothing is not settled in silence.
 fn cut_shapes<A: Allocator + Copy>(alloc: A, paths: &[Path<A>]) -> Result<Vec<Shape, A>, RowFault> {
     let mut shapes = Vec::new(alloc);
     let mut rings = Vec::new(alloc);
@@ -85,11 +86,15 @@ fn cut_shapes<A: Allocator + Copy>(alloc: A, paths: &[Path<A>]) -> Result<Vec<Sh
         }
     }
     put_region(alloc, &mut rings, &mut shapes)?;
+    if shapes.is_empty() {
+        return Err(RowFault::Parts(PartsFault::TooFew));
+    }
     Ok(shapes)
 }
 
 /// The shapes of a geometry: the one that it is, or, if `split` is set, those into which it is cut.
-/// Faults: `Several` if it is not one shape and is not to be cut; `Shape`, `Parts`, `Memory`.
+/// Faults: `Several` if it is not one shape and is not to be cut; `Shape`, `Parts`, `Memory`. So there
+/// is a shape at least.
 pub fn shapes_of<A: Allocator + Copy>(
     alloc: A,
     split: bool,

@@ -195,6 +195,27 @@ fn features_are_numbered_and_cut(rt: HostRuntime) -> Result<(), Fail> {
     )
 }
 
+/// What has no path is refused with `split`, too, and the rows around it go on.
+#[test]
+fn empty_geometries_are_refused(rt: HostRuntime) -> Result<(), Fail> {
+    let cut = Plan {
+        first_id: Some(5),
+        split: true,
+        ..plan()
+    };
+    let file =
+        "{\"type\":\"Point\",\"coordinates\":[3,3]}\n{\"type\":\"MultiLineString\",\"coordinates\":[]}\n{\"type\":\"Polygon\",\"coordinates\":[]}\n{\"type\":\"Polygon\",\"coordinates\":[[]]}\n{\"type\":\"MultiPolygon\",\"coordinates\":[]}\n{\"type\":\"MultiPolygon\",\"coordinates\":[[]]}\n{\"type\":\"LineString\",\"coordinates\":[]}\n{\"type\":\"MultiLineString\",\"coordinates\":[[],[[0,0],[1,1]]]}\n{\"type\":\"MultiPolygon\",\"coordinates\":[[],[[[0,0],[5,0],[5,5],[0,0]]]]}";
+    imports(
+        &rt,
+        rt.alloc(),
+        cut,
+        file,
+        "1 5000 POINT (3 3);9 13000 POLYGON ((0 0, 5 0, 5 5, 0 0));\n",
+        "2,,P4,,\n3,,P4,,\n4,,P4,,\n5,,P4,,\n6,,P4,,\n7,,P4,,\n8,,P4,,\nsettled 9\n",
+        true,
+    )
+}
+
 #[test]
 fn lists_have_sixteen(rt: HostRuntime) -> Result<(), Fail> {
     let mut file = Vec::new(rt.alloc());
