@@ -2,7 +2,7 @@
 
 use crate::faults::{RowFault, SourceFault};
 use crate::geometry_texts::read_geometry;
-use csv::{ByteRecord, ReaderBuilder};
+use csv::{ByteRecord, ErrorKind, ReaderBuilder};
 use features::Name;
 use geojson::{Cause, Geometry, Wished, read_wished};
 use grid::Grid;
@@ -31,15 +31,19 @@ pub struct Table {
     class: Option<usize>,
 }
 
-/// The fields of a row; `None` where they cannot be read.
-fn fields_of(heap: Global, text: &[u8]) -> Option<ByteRecord> {
+/// The fields of a row. Faults: `Columns` where it has none, or they cannot be read; `Memory`.
+fn fields_of(heap: Global, text: &[u8]) -> Result<ByteRecord, RowFault> {
     let mut reader = ReaderBuilder::new()
         .has_headers(false)
         .from_reader(heap, text);
     let mut record = ByteRecord::new(heap);
     match reader.read_byte_record(&mut record) {
-        Ok(true) => Some(record),
-        Ok(false) | Err(_) => None,
+        Ok(true) => Ok(record),
+        Ok(false) => Err(RowFault::Columns),
+        Err(error) => match error.kind() {
+            ErrorKind::OutOfMemory => Err(RowFault::Memory),
+            _ => Err(RowFault::Columns),
+        },
     }
 }
 
@@ -55,10 +59,12 @@ fn column_of(record: &ByteRecord, name: &[u8]) -> Option<usize> {
     None
 }
 
-/// The columns that the first row of a file names. `NoForm` if there is no column `WKT`.
+/// The columns that the first row of a file names. `NoForm` if there is no column `WKT`; `Memory`.
 pub fn table_of(heap: Global, text: &[u8]) -> Result<Table, SourceFault> {
-    let Some(record) = fields_of(heap, text) else {
-        return Err(SourceFault::NoForm);
+    let record = match fields_of(heap, text) {
+        Ok(record) => record,
+        Err(RowFault::Memory) => return Err(SourceFault::Memory),
+        Err(_) => return Err(SourceFault::NoForm),
     };
     let Some(shape) = column_of(&record, b"WKT") else {
         return Err(SourceFault::NoForm);
@@ -75,11 +81,10 @@ fn field(record: &ByteRecord, column: Option<usize>) -> Option<&[u8]> {
     record.get(column?)
 }
 
-/// What a row of comma-separated values says. An id or a class that is none is not there.
+/// What a row of comma-separated values says. An id or a class that is none is not there. Faults:
+/// `Columns` if the row has no column `WKT`; `Geometry`, `Memory`.
 pub fn row_of_csv(heap: Global, grid: &Grid, table: Table, text: &[u8]) -> Result<Found, RowFault> {
-    let Some(record) = fields_of(heap, text) else {
-        return Err(RowFault::Columns);
-    };
+    let record = fields_of(heap, text)?;
     let id = match field(&record, table.id) {
         Some(text) => read_number(text),
         None => None,
