@@ -100,7 +100,7 @@ pub enum RowFault {
     Json(FeatureFault),
     /// K1 to K3, M1 to M3: the column WKT is at fault, at a byte.
     Geometry(GeometryFault),
-    /// J2: a row of comma-separated values has not the columns of the first one.
+    /// J2: a row of comma-separated values has another number of fields than the first one.
     Columns,
     /// I1: there is no id, or none that is a whole number below 2^64.
     NoId,

@@ -23,6 +23,11 @@ pub struct Found {
 /// Which columns a file of comma-separated values has, counted from 0.
 #[derive(Clone, Copy, Debug)]
 pub struct Table {
+    /// How many columns there are.
+    len: usize,
+    /// How many of them each row has. The last ones may be left out if they have no name: ogr2ogr
+    /// writes the header `WKT,` over rows of one field.
+    least: usize,
     /// The column `WKT`.
     shape: usize,
     /// The column `id`.
@@ -45,6 +50,19 @@ fn fields_of(heap: Global, text: &[u8]) -> Result<ByteRecord, RowFault> {
             _ => Err(RowFault::Columns),
         },
     }
+}
+
+/// How many columns there are up to the last one that has a name.
+fn named_len(header: &ByteRecord) -> usize {
+    let mut len = 0;
+    for index in 0..header.len() {
+        if let Some(name) = header.get(index) {
+            if !name.is_empty() {
+                len = index.saturating_add(1);
+            }
+        }
+    }
+    len
 }
 
 /// The column of this name, in letters of either case.
@@ -70,6 +88,8 @@ pub fn table_of(heap: Global, text: &[u8]) -> Result<Table, SourceFault> {
         return Err(SourceFault::NoForm);
     };
     Ok(Table {
+        len: record.len(),
+        least: named_len(&record),
         shape,
         id: column_of(&record, b"id"),
         class: column_of(&record, b"class"),
@@ -82,9 +102,12 @@ fn field(record: &ByteRecord, column: Option<usize>) -> Option<&[u8]> {
 }
 
 /// What a row of comma-separated values says. An id or a class that is none is not there. Faults:
-/// `Columns` if the row has no column `WKT`; `Geometry`, `Memory`.
+/// `Columns` if the row has another number of fields than the first one; `Geometry`, `Memory`.
 pub fn row_of_csv(heap: Global, grid: &Grid, table: Table, text: &[u8]) -> Result<Found, RowFault> {
     let record = fields_of(heap, text)?;
+    if record.len() < table.least || table.len < record.len() {
+        return Err(RowFault::Columns);
+    }
     let id = match field(&record, table.id) {
         Some(text) => read_number(text),
         None => None,

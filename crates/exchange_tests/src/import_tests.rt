@@ -216,6 +216,43 @@ fn empty_geometries_are_refused(rt: HostRuntime) -> Result<(), Fail> {
     )
 }
 
+/// A row has as many fields as the first one, or the last ones are left out and have no name, as
+/// ogr2ogr does it. Empty lines are no rows.
+#[test]
+fn rows_have_the_columns_of_the_first(rt: HostRuntime) -> Result<(), Fail> {
+    imports(
+        &rt,
+        rt.alloc(),
+        plan(),
+        "WKT,id,class\n\"POINT (1 2)\",7,x\nPOINT (3 4),8\nPOINT (5 6),9,x,y\nPOINT (7 8)\n\n\"POINT (1 1)\",10,\r\n\r\n",
+        "1 7 POINT (1 2);5 10 POINT (1 1);\n",
+        "2,,J2,,\n3,,J2,,\n4,,J2,,\nsettled 5\n",
+        true,
+    )?;
+    let numbered = Plan {
+        first_id: Some(5),
+        ..plan()
+    };
+    imports(
+        &rt,
+        rt.alloc(),
+        numbered,
+        "WKT,\n\"POINT (1 2)\"\n\"POINT (3 4)\",\n\"POINT (5 6)\",,\n",
+        "1 5 POINT (1 2);2 6 POINT (3 4);\n",
+        "3,,J2,,\nsettled 3\n",
+        true,
+    )?;
+    imports(
+        &rt,
+        rt.alloc(),
+        numbered,
+        "name,,WKT,,\na,,POINT (1 2)\nb,POINT (3 4)\nc,,POINT (5 6),,\n",
+        "1 5 POINT (1 2);3 7 POINT (5 6);\n",
+        "2,,J2,,\nsettled 3\n",
+        true,
+    )
+}
+
 #[test]
 fn lists_have_sixteen(rt: HostRuntime) -> Result<(), Fail> {
     let mut file = Vec::new(rt.alloc());
