@@ -379,6 +379,8 @@ impl<'a, S: Sink, B: Books> Importing<'a, S, B> {
             Ok(counts) => counts,
             Err(fault) => return Err(ImportFault::Sink(fault)),
         };
+        // What is told of rows that are settled has to stand before all else: see `kept_len`.
+        refused.sort_unstable_by_key(|one| (one.row, one.id));
         for one in refused.as_slice() {
             self.books.refuse_reply(one)?;
         }

@@ -278,6 +278,70 @@ fn lists_have_sixteen(rt: HostRuntime) -> Result<(), Fail> {
     )
 }
 
+/// A sink that refuses each addition, the last one of a list first.
+#[derive(Drop)]
+struct Contrary;
+
+impl Sink for Contrary {
+    fn settle(
+        &mut self,
+        heap: Global,
+        list: &[Addition],
+        refused: &mut Vec<Refused<Global>>,
+    ) -> Result<Counts, SinkFault> {
+        for one in list.iter().rev() {
+            let _ = refused.push(Refused {
+                row: one.row,
+                id: one.id,
+                reply: Vec::new(heap),
+            });
+        }
+        Ok(Counts {
+            applied: 0,
+            present: 0,
+            refused: refused.len(),
+        })
+    }
+}
+
+/// What a list refuses is told by rising rows, so that what is told of settled rows stands first.
+#[test]
+fn refusals_rise(rt: HostRuntime) -> Result<(), Fail> {
+    let mut file = Vec::new(rt.alloc());
+    let mut books = Vec::new(rt.alloc());
+    Sent(&mut file).write_all(b"WKT\nPOINT (1 2)\n\"LINESTRING (0 0")?;
+    for at in 1..=17 {
+        write!(Sent(&mut file), ", {at} {}", at % 2)?;
+    }
+    Sent(&mut file).write_all(b")\"\n")?;
+    Sent(&mut books).write_all(b"1,5000,,,\n")?;
+    for at in 6_000..=6_016 {
+        write!(Sent(&mut books), "2,{at},,,\n")?;
+        if at == 6_014 {
+            Sent(&mut books).write_all(b"settled 1\n")?;
+        }
+    }
+    Sent(&mut books).write_all(b"settled 2\n")?;
+    let cut = Plan {
+        first_id: Some(5),
+        split: true,
+        ..plan()
+    };
+    let mut told = Vec::new(rt.alloc());
+    let mut sink = Contrary;
+    let mut kept = KeptBooks {
+        heap: rt.alloc(),
+        told: Sent(&mut told),
+    };
+    let end = {
+        let mut import = Importing::new(rt.alloc(), cut, &mut sink, &mut kept);
+        import.run(rt.alloc(), &mut Told(file.as_slice()))
+    };
+    assert!(rt; end.is_ok());
+    assert_eq!(rt; told.as_slice(), books.as_slice());
+    Ok(())
+}
+
 #[test]
 fn a_script_has_labels(rt: HostRuntime) -> Result<(), Fail> {
     let Some(label) = Name::new(b"north") else {
