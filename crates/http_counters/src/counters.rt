@@ -24,9 +24,9 @@ use std::io;
 use std::sync::{Mutex, Wait};
 use std::time::{Clock, Instant};
 
-/// Answers requests by one session, which goes on from connection to connection. The answers of
-/// which pages are still to come are shared with other counters, so a further page may be asked for
-/// at any of them; so are the pieces of the trail, and what is counted.
+/// Answers requests by one session, which goes on from request to request. The answers of which
+/// pages are still to come are shared with other counters, so a further page may be asked for at any
+/// of them; so are the pieces of the trail, and what is counted.
 ///
 /// Counters take turns where they give a further page of an answer that is kept, and where they are
 /// asked for the policy or the trail: a lock is held while such a request is answered. Searches,
@@ -97,6 +97,7 @@ impl<S: Session + Drop, R: Wait + Clock> Counter<'_, S, R> {
     fn read_aside(&mut self, aside: Kept<Global>, request: &Request<Bytes>, response: &mut Response)
         requires { IsBlank response.old }
         ensures host { self.new.host ≡ self.old.host }
+        ensures reader { self.new.reader ≡ self.old.reader }
         ensures answered { AnswersAt S.Memory S.subject_of S.serves (place_of self.old.host)
             self.old.reader Reading request.now self.old.session self.new.session response.new }
     {
@@ -119,6 +120,7 @@ impl<S: Session + Drop, R: Wait + Clock> Counter<'_, S, R> {
     fn read_kept(&mut self, request: &Request<Bytes>, response: &mut Response)
         requires { IsBlank response.old }
         ensures host { self.new.host ≡ self.old.host }
+        ensures reader { self.new.reader ≡ self.old.reader }
         ensures answered { AnswersAt S.Memory S.subject_of S.serves (place_of self.old.host)
             self.old.reader Reading request.now self.old.session self.new.session response.new }
     {
@@ -138,6 +140,7 @@ impl<S: Session + Drop, R: Wait + Clock> Counter<'_, S, R> {
     fn read(&mut self, request: &Request<Bytes>, response: &mut Response)
         requires { IsBlank response.old }
         ensures host { self.new.host ≡ self.old.host }
+        ensures reader { self.new.reader ≡ self.old.reader }
         ensures answered { AnswersAt S.Memory S.subject_of S.serves (place_of self.old.host)
             self.old.reader Reading request.now self.old.session self.new.session response.new }
     {
@@ -152,6 +155,7 @@ impl<S: Session + Drop, R: Wait + Clock> Counter<'_, S, R> {
     fn call_for(&mut self, call: Call, request: &Request<Bytes>, response: &mut Response)
         requires { IsBlank response.old }
         ensures host { self.new.host ≡ self.old.host }
+        ensures reader { self.new.reader ≡ self.old.reader }
         ensures answered { AnswersAt S.Memory S.subject_of S.serves (place_of self.old.host)
             self.old.reader (Calling call) request.now self.old.session self.new.session
             response.new }
@@ -179,6 +183,7 @@ impl<S: Session + Drop, R: Wait + Clock> Counter<'_, S, R> {
         requires blank { IsBlank response.old }
         requires text { IsTextFor route text.now }
         ensures host { self.new.host ≡ self.old.host }
+        ensures reader { self.new.reader ≡ self.old.reader }
         ensures answered { AnswersAt S.Memory S.subject_of S.serves (place_of self.old.host)
             self.old.reader route request.now self.old.session self.new.session response.new }
     {
@@ -204,6 +209,7 @@ impl<S: Session + Drop, R: Wait + Clock> Service for Counter<'_, S, R> {
     ghost use Rattle.http_counters.specs.Counters.{AnswersAtCounter};
 
     ghost answers = { λ old request response new. (new.host ≡ old.host)
+        × (new.reader ≡ old.reader)
         × AnswersAtCounter S.Memory S.subject_of S.serves (place_of old.host) old.reader request
         old.session new.session response };
 
