@@ -43,6 +43,9 @@ const GLANCE: u64 = 1;
 /// The same where another worker waits for a connection, and for a write.
 const LONG_LOOK: u64 = 1_000;
 
+/// After how many reads without an answer a client makes room for others that wait.
+const READS_AT_ONCE: u64 = 16;
+
 /// A connection of HTTP between two reads.
 #[derive(Drop)]
 struct Visitor {
@@ -166,7 +169,8 @@ fn next_arrival<R: Wait + Clock>(
 }
 
 /// Reads from a connection. A read is broken off, so that the connection can wait, where the turn is
-/// over, or where the client is silent and other connections wait.
+/// over, or where other connections wait, and the client is silent or sends its request in many
+/// pieces. A client that has had its time is given up, however few bytes it sends at a time.
 #[derive(Drop)]
 struct VisitorReader<'a, 'x, R: Clock> {
     rt: &'x R,
@@ -181,6 +185,8 @@ struct VisitorReader<'a, 'x, R: Clock> {
     answered: &'a AtomicU64,
     /// Not 0 where bytes of an answer were written since the last read.
     written: &'a AtomicU64,
+    /// How many reads got bytes since the last answer, while this worker looked after it.
+    reads: u64,
     /// For how many milliseconds the stream's reads wait; 0 where that is not set yet.
     set: u64,
     /// Whether a read was broken off.
@@ -211,15 +217,29 @@ impl<R: Clock> VisitorReader<'_, '_, R> {
         let answered = self.answered.load(Ordering::SeqCst);
         self.age().saturating_sub(answered) >= self.patience
     }
+
+    /// Notes whether an answer was written since the last read.
+    fn note_answer(&mut self) {
+        if self.written.swap(0, Ordering::SeqCst) != 0 {
+            self.answered.store(self.age(), Ordering::SeqCst);
+            self.reads = 0;
+        }
+    }
+
+    /// Whether the client has sent so many pieces of a request that others come first.
+    fn makes_room(&self) -> bool {
+        self.reads >= READS_AT_ONCE && is_crowded(self.lounge, self.arrivals)
+    }
 }
 
 impl<R: Clock> Read for VisitorReader<'_, '_, R> {
     fn read(&mut self, buffer: &mut [u8]) -> io::Result<usize> {
-        if self.written.swap(0, Ordering::SeqCst) != 0 {
-            self.answered.store(self.age(), Ordering::SeqCst);
+        self.note_answer();
+        if self.reads > 0 && self.is_late() {
+            return Err(ErrorKind::WouldBlock.into());
         }
         for _ in 0..u64::MAX {
-            if self.turn.is_over() {
+            if self.turn.is_over() || self.makes_room() {
                 break;
             }
             self.set_wait()?;
@@ -233,7 +253,10 @@ impl<R: Clock> Read for VisitorReader<'_, '_, R> {
                         break;
                     }
                 }
-                read => return read,
+                read => {
+                    self.reads = self.reads.saturating_add(1);
+                    return read;
+                }
             }
         }
         self.broken_off = true;
@@ -338,6 +361,7 @@ impl Visitor {
             begun: self.begun,
             answered: &self.answered,
             written: &written,
+            reads: 0,
             set: 0,
             broken_off: false,
         };

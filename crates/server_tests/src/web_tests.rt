@@ -324,6 +324,35 @@ fn who_says_nothing_is_let_go(rt: HostRuntime) -> Result<(), Fail> {
     Ok(())
 }
 
+/// A client that sends a request byte by byte is let go once its time is over, although each of its
+/// bytes comes in time.
+#[test]
+fn who_sends_bit_by_bit_is_let_go(rt: HostRuntime) -> Result<(), Fail> {
+    let paths = ("server_web_slow_lines.sock", "server_web_slow.sock");
+    let pages = Pages::new(&rt);
+    let site = pages.site(b"");
+    let tally = Tally::new();
+    let random = RandomState::new(&rt)?;
+    let web = Web {
+        patience: 500,
+        ..web(WebPlace::Path(paths.1), &site, &tally, random, 2)
+    };
+    serve_clients(&rt, rt, rt.alloc(), paths, web, || {
+        let slow = patient(&rt, paths.1);
+        let mut sends = &slow;
+        let begun = sends.write_all(b"GET / HTTP/1.1\r\nHost: localhost\r\nx: ");
+        assert!(&rt; begun.is_ok());
+        let sent = (0..1_000).find(|_| {
+            thread::sleep(&rt, Duration::from_millis(5));
+            sends.write_all(b"a").is_err()
+        });
+        assert!(&rt; sent.is_some(), "it is let go");
+        let other = patient(&rt, paths.1);
+        assert!(&rt; is_told(&other, MASTS, "HTTP/1.1 200"));
+    });
+    Ok(())
+}
+
 /// A client that takes nothing of an answer that is longer than what lies between it and the server
 /// is let go, and the one worker answers others.
 #[test]
