@@ -46,3 +46,22 @@ complains cut "1 features"
 answered cut.sock "SEARCH POINT (3 4)" "rows 1" "1 1 north mast POINT (3 4)"
 ended cut 0
 [ ! -e cut/0000000002.db ] || fail "the volume that has not begun is still there"
+
+# One before the last that has not begun was emptied: no look passes over it, and no start begins before it.
+cp -r one emptied
+mv emptied/0000000001.db emptied/0000000002.db
+rm -f emptied/*.db-wal
+: > emptied/0000000001.db
+for words in "check emptied" "export emptied" "list emptied"; do
+    begin emptied store $words
+    ended emptied 1
+    complains emptied "landmap: Q3 emptied/0000000001.db"
+    [ ! -s emptied.out ] || fail "store $words tells $(cat emptied.out)"
+done
+cp -r cut twice
+: > twice/0000000002.db
+: > twice/0000000003.db
+begin twice serve --socket twice.sock --connections 1 --store twice
+ended twice 1
+complains twice "landmap: Q3 twice/0000000002.db"
+[ -e twice/0000000002.db ] && [ -e twice/0000000003.db ] || fail "a volume was removed that the start refused"

@@ -10,6 +10,9 @@ client stays map.sock
 ask stays "HELLO south" "hello south"
 say stays "ADD 7 parcel POLYGON ((0 0, 9 0, 9 9, 0 0))" "ADD 8 road LINESTRING (3 4, 5 6)" COMMIT "ADD 9 mast POINT (3 4)" COMMIT
 hear stays staged staged "applied 1" staged "applied 2"
+# What is left of a try that found no room for the second volume is removed before it is made.
+echo half > store/0000000002.db
+echo half > store/0000000002.db-wal
 {
     echo "HELLO north"
     for ((n = 1; n <= 66000; n++)); do echo "SEARCH POINT (-9 -9)"; done

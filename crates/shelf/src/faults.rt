@@ -6,7 +6,7 @@ use memory::{NoMemory, text};
 use sqlite::{Error as SqlError, ErrorCode};
 use sqlite_trees::error::StoreError;
 use std::alloc::Global;
-use std::io;
+use std::io::{self, ErrorKind};
 use thiserror::Error;
 use volumes::VolumeFault;
 
@@ -60,6 +60,10 @@ impl ShelfFault {
             ShelfFault::Unusable(_, Cause::Database(SqlError::SqliteFailure(code))) => matches!(
                 code,
                 ErrorCode::OutOfMemory | ErrorCode::DiskFull
+            ),
+            ShelfFault::Unusable(_, Cause::File(error)) => matches!(
+                error.kind(),
+                ErrorKind::OutOfMemory | ErrorKind::StorageFull | ErrorKind::QuotaExceeded
             ),
             _ => false,
         }

@@ -1,6 +1,6 @@
 //! The folder of a store: its lock, and the files of its volumes.
 
-use crate::faults::{ShelfFault, in_use, of_file};
+use crate::faults::{Cause, ShelfFault, damaged, in_use, of_file};
 use memory::{GrowText, GrowVec, NoMemory, text};
 use std::alloc::Global;
 use std::fs::{File, OpenOptions, Permissions, TryLockError};
@@ -118,12 +118,35 @@ pub(crate) fn volume_numbers(rt: &HostRuntime, folder: &str) -> Result<Vec<u32>,
     Ok(numbers)
 }
 
-/// Makes the empty file of a new volume, whose owner alone may read and write it, and has the folder
-/// keep its name.
-pub(crate) fn make_file(rt: &HostRuntime, folder: &str, path: &str) -> Result<(), ShelfFault> {
+/// `Damaged` for a volume that has not begun, unless its making can have been cut off: it is the last
+/// of these numbers, and the first of a store or behind another one. Any other one was emptied.
+pub(crate) fn half_made(
+    heap: Global,
+    path: &str,
+    number: u32,
+    numbers: &[u32],
+) -> Result<(), ShelfFault> {
+    let words = if numbers.last() != Some(&number) {
+        "it has not begun, and another volume follows it"
+    } else if number > 1 && !numbers.contains(&(number - 1)) {
+        "it has not begun, and the volume before it is missing"
+    } else {
+        return Ok(());
+    };
+    Err(damaged(heap, path, Cause::Words(words)))
+}
+
+/// Makes the empty files of a new volume, the database and its log, whose owner alone may read and
+/// write them, and has the folder keep their names. SQLite, which would not say that there is no room
+/// for a file, has none to make then.
+pub(crate) fn make_files(rt: &HostRuntime, folder: &str, path: &str) -> Result<(), ShelfFault> {
     let heap = rt.alloc();
+    let log = log_path(heap, path)?;
     if let Err(error) = make_own(rt, path) {
         return Err(of_file(heap, path, error));
+    }
+    if let Err(error) = make_own(rt, log.as_str()) {
+        return Err(of_file(heap, log.as_str(), error));
     }
     keep_names(rt, folder)
 }
@@ -141,13 +164,19 @@ fn keep_names(rt: &HostRuntime, folder: &str) -> Result<(), ShelfFault> {
     }
 }
 
-/// Removes the files of a volume that has not begun.
-pub(crate) fn remove_volume(rt: &HostRuntime, folder: &str, path: &str) -> Result<(), ShelfFault> {
-    let heap = rt.alloc();
-    let log = log_path(heap, path)?;
-    let _ = fs::remove_file(rt, log.as_str());
+/// Removes a file, if it is there.
+fn remove_if_there(rt: &HostRuntime, path: &str) -> Result<(), ShelfFault> {
     match fs::remove_file(rt, path) {
-        Ok(()) => keep_names(rt, folder),
-        Err(error) => Err(of_file(heap, path, error)),
+        Ok(()) => Ok(()),
+        Err(error) if error.kind() == io::ErrorKind::NotFound => Ok(()),
+        Err(error) => Err(of_file(rt.alloc(), path, error)),
     }
+}
+
+/// Removes the files of a volume that has not begun, those that are there.
+pub(crate) fn remove_volume(rt: &HostRuntime, folder: &str, path: &str) -> Result<(), ShelfFault> {
+    let log = log_path(rt.alloc(), path)?;
+    remove_if_there(rt, log.as_str())?;
+    remove_if_there(rt, path)?;
+    keep_names(rt, folder)
 }

@@ -4,7 +4,7 @@
 ghost use Rattle.std.specs.Prelude.{◌≡◌};
 
 use crate::faults::{Cause, ShelfFault, damaged, of_database, of_file, of_volume};
-use crate::folders::{lock_folder, volume_numbers, volume_path};
+use crate::folders::{half_made, lock_folder, volume_numbers, volume_path};
 use crate::opening::{Opened, connect, has_tables, open_volume};
 use byte_streams::{WriteFailed, write_shown, write_whole};
 use features::Feature;
@@ -102,8 +102,8 @@ fn counted(
     })
 }
 
-/// Writes a line for each volume of a store: its lives, records, features and bytes. One without
-/// tables, which has not begun, has none.
+/// Writes a line for each volume of a store: its lives, records, features and bytes. A last one
+/// without tables, which has not begun, has none.
 pub fn list_store<W: Write>(
     rt: &HostRuntime,
     folder: &str,
@@ -111,17 +111,19 @@ pub fn list_store<W: Write>(
 ) -> Result<(), LookFault> {
     let heap = rt.alloc();
     let _lock = lock_folder(rt, folder)?;
-    for number in volume_numbers(rt, folder)? {
-        let path = volume_path(heap, folder, number)?;
+    let numbers = volume_numbers(rt, folder)?;
+    for number in numbers.iter() {
+        let path = volume_path(heap, folder, *number)?;
         let bytes = match fs::metadata(rt, path.as_str()) {
             Ok(metadata) => metadata.len(),
             Err(error) => return Err(LookFault::Store(of_file(heap, path.as_str(), error))),
         };
         let mut database = connect(rt, path.as_str())?;
         if !has_tables(&database) {
+            half_made(heap, path.as_str(), *number, numbers.as_slice())?;
             continue;
         }
-        match counted(&mut database, number, bytes) {
+        match counted(&mut database, *number, bytes) {
             Ok(account) => write_shown(&account, output)?,
             Err(error) => return Err(LookFault::Store(of_database(heap, path.as_str(), error))),
         }
@@ -168,8 +170,9 @@ fn read_volume(rt: &HostRuntime, path: &str) -> Result<Option<ReadVolume>, Shelf
 }
 
 /// Checks a store: each volume's sums, trees and rows; that its shapes, names and policy read, and
-/// its records are numbered without a gap; that volumes are numbered without a gap, and each goes on
-/// where the one before ended. The first fault names its file and its table.
+/// its records are numbered without a gap; that volumes are numbered without a gap, each but the last
+/// has begun, and each goes on where the one before ended. The first fault names its file and its
+/// table.
 pub fn check_store(rt: &HostRuntime, folder: &str) -> Result<Checked, ShelfFault> {
     let heap = rt.alloc();
     let _lock = lock_folder(rt, folder)?;
@@ -179,14 +182,16 @@ pub fn check_store(rt: &HostRuntime, folder: &str) -> Result<Checked, ShelfFault
     };
     let mut next = None;
     let mut last = None;
-    for number in volume_numbers(rt, folder)? {
-        let path = volume_path(heap, folder, number)?;
+    let numbers = volume_numbers(rt, folder)?;
+    for number in numbers.iter() {
+        let path = volume_path(heap, folder, *number)?;
         if last.is_some() && last != number.checked_sub(1) {
             let cause = Cause::Words("the volume before it is missing");
             return Err(damaged(heap, path.as_str(), cause));
         }
-        last = Some(number);
+        last = Some(*number);
         let Some(read) = read_volume(rt, path.as_str())? else {
+            half_made(heap, path.as_str(), *number, numbers.as_slice())?;
             continue;
         };
         if next.is_some() && next != Some(read.first) {
@@ -240,7 +245,7 @@ fn write_lines<W: Write>(
 }
 
 /// Writes the lines of all records of a store, those of the oldest volume first. They are the lines
-/// that ROLL shows.
+/// that ROLL shows. `Damaged` at a volume without tables, but for a last one that was half made.
 pub fn export_records<W: Write>(
     rt: &HostRuntime,
     folder: &str,
@@ -248,10 +253,12 @@ pub fn export_records<W: Write>(
 ) -> Result<(), LookFault> {
     let heap = rt.alloc();
     let _lock = lock_folder(rt, folder)?;
-    for number in volume_numbers(rt, folder)? {
-        let path = volume_path(heap, folder, number)?;
+    let numbers = volume_numbers(rt, folder)?;
+    for number in numbers.iter() {
+        let path = volume_path(heap, folder, *number)?;
         let mut database = connect(rt, path.as_str())?;
         if !has_tables(&database) {
+            half_made(heap, path.as_str(), *number, numbers.as_slice())?;
             continue;
         }
         match write_lines(&mut database, output) {
@@ -299,6 +306,7 @@ pub fn export_features<W: Write>(
             }
             return Ok(());
         }
+        half_made(heap, path.as_str(), *number, numbers.as_slice())?;
     }
     Ok(())
 }

@@ -4,7 +4,9 @@ ghost use Rattle.std.specs.Prelude.{◌≡◌, IfOk, OnOk, OnErr};
 ghost use Rattle.features.specs.Rows.{IsSortedById};
 
 use crate::faults::{Cause, ShelfFault, damaged, of_volume};
-use crate::folders::{lock_folder, make_file, remove_volume, volume_numbers, volume_path};
+use crate::folders::{
+    half_made, lock_folder, make_files, remove_volume, volume_numbers, volume_path,
+};
 use crate::opening::{Disk, Lives, Opened, close_volume, make_tables, open_volume};
 use crate::subjects::subjects_text;
 use audit_trail::{Record, Trail};
@@ -66,15 +68,29 @@ struct LastVolume {
     lives: Lives,
 }
 
-/// The last volume of a folder that has begun. Files behind it, which a start or a change of volumes
-/// left half made, are removed.
+/// Removes the volume that was left half made, if there is one.
+fn remove_half_made(
+    rt: &HostRuntime,
+    folder: &str,
+    path: Option<String>,
+) -> Result<(), ShelfFault> {
+    match path {
+        Some(path) => remove_volume(rt, folder, path.as_str()),
+        None => Ok(()),
+    }
+}
+
+/// The last volume of a folder that has begun. The one behind it, which a start or a change of volumes
+/// left half made, is removed. `Damaged`, and nothing is removed, where two have not begun.
 fn last_volume(rt: &HostRuntime, folder: &str) -> Result<Option<LastVolume>, ShelfFault> {
     let heap = rt.alloc();
     let numbers = volume_numbers(rt, folder)?;
+    let mut half_made_path = None;
     for number in numbers.iter().rev() {
         let path = volume_path(heap, folder, *number)?;
         match open_volume(rt, path.as_str())? {
             Opened::Begun(store, tables, lives) => {
+                remove_half_made(rt, folder, half_made_path)?;
                 return Ok(Some(LastVolume {
                     number: *number,
                     path,
@@ -84,16 +100,12 @@ fn last_volume(rt: &HostRuntime, folder: &str) -> Result<Option<LastVolume>, She
                 }));
             }
             Opened::NotBegun => {
-                if *number > 1 && !numbers.contains(&(*number - 1)) {
-                    let cause = Cause::Words(
-                        "it has not begun, and the volume before it is missing",
-                    );
-                    return Err(damaged(heap, path.as_str(), cause));
-                }
-                remove_volume(rt, folder, path.as_str())?;
+                half_made(heap, path.as_str(), *number, numbers.as_slice())?;
+                half_made_path = Some(path);
             }
         }
     }
+    remove_half_made(rt, folder, half_made_path)?;
     Ok(None)
 }
 
@@ -131,8 +143,8 @@ fn new_volume(
 ) -> Result<Volume<Disk>, ShelfFault> {
     let heap = rt.alloc();
     let path = volume_path(heap, folder, opening.number)?;
-    let _ = remove_volume(rt, folder, path.as_str());
-    make_file(rt, folder, path.as_str())?;
+    remove_volume(rt, folder, path.as_str())?;
+    make_files(rt, folder, path.as_str())?;
     let (store, tables) = make_tables(rt, path.as_str())?;
     let mut volume = volume_over(heap, path.as_str(), store, tables, opening.first)?;
     let begun = volume.begin(

@@ -8,13 +8,16 @@ use plane::{Point, Shape};
 use policy_documents::Document;
 use policy_text::read_document;
 use scripts::run_kept_script;
-use shelf::{Beginning, Cause, Found, Shelf, ShelfFault};
+use shelf::{
+    Beginning, Cause, Found, LookFault, Shelf, ShelfFault, check_store, export_features,
+    export_records, list_store,
+};
 use sqlite_trees::error::StoreError;
 use std::alloc::{AllocError, Global};
-use std::fs;
 use std::process::Abort;
 use std::sync::Arc;
 use std::test::Fail;
+use std::{fs, io};
 use volumes::VolumeFault;
 use world::{Base, Limits, Starts, World};
 
@@ -192,6 +195,26 @@ fn want_of_room_passes(rt: HostRuntime) {
     assert!(&rt; !said(&rt, heap, StoreError::Io).is_passing());
 }
 
+/// What a store says of a file that a call of the system refused with this number.
+fn refused(rt: &impl Abort, heap: Global, number: i32) -> ShelfFault {
+    let path = "store/0000000002.db".repeat(heap, 1).expect(rt, "memory");
+    ShelfFault::Unusable(path, Cause::File(io::Error::from_raw_os_error(number)))
+}
+
+/// A disk without room for a further volume's files is asked again too. The numbers are Linux's.
+#[test]
+fn want_of_room_for_a_file_passes(rt: HostRuntime) {
+    let heap = rt.alloc();
+    // ENOMEM, ENOSPC, EDQUOT.
+    for number in [12i32, 28, 122] {
+        assert!(&rt; refused(&rt, heap, number).is_passing(), "{number}");
+    }
+    // ENOENT, EIO, EACCES, EMFILE, EROFS.
+    for number in [2i32, 5, 13, 24, 30] {
+        assert!(&rt; !refused(&rt, heap, number).is_passing(), "{number}");
+    }
+}
+
 #[test]
 fn no_folder(rt: HostRuntime) {
     let policy = open_policy(&rt, rt.alloc());
@@ -217,6 +240,126 @@ fn half_made_volumes_are_removed(rt: HostRuntime) {
         Err(fault) => panic!(&rt; "not opened: {fault}"),
     }
     assert!(&rt; matches!(fs::exists(&rt, "half_made/0000000002.db"), Ok(false)));
+}
+
+/// Whether a fault is that of a volume which has not begun though one stands behind it.
+fn is_emptied(fault: &ShelfFault, path: &str) -> bool {
+    match fault {
+        ShelfFault::Damaged(file, Cause::Words(words)) => {
+            file.as_str() == path && *words == "it has not begun, and another volume follows it"
+        }
+        _ => false,
+    }
+}
+
+/// The same of what a look at a store tells.
+fn tells_of_emptied(told: &Result<(), LookFault>, path: &str) -> bool {
+    match told {
+        Err(LookFault::Store(fault)) => is_emptied(fault, path),
+        _ => false,
+    }
+}
+
+/// Where a store of two volumes is: its folder, and their files.
+#[derive(Clone, Copy)]
+struct Places<'a> {
+    folder: &'a str,
+    first: &'a str,
+    last: &'a str,
+}
+
+/// Makes a store of two volumes. The first one has no records, and so is also what the last one
+/// begins with; that has these.
+fn two_volumes(
+    rt: &HostRuntime,
+    policy: &Policy,
+    places: Places<'_>,
+    records: &Records,
+) -> Result<(), ShelfFault> {
+    empty_folder(rt, places.folder);
+    let (shelf, _found) = opened(rt, policy, places.folder)?;
+    shelf.close()?;
+    let _ = fs::copy(rt, places.first, places.last);
+    let (mut shelf, _found) = opened(rt, policy, places.folder)?;
+    shelf.append(records.as_slice())?;
+    shelf.close()
+}
+
+/// Only the last volume can be half made. One before it that has not begun was emptied: no look at
+/// the store passes over it.
+#[test]
+fn an_emptied_volume_is_seen(rt: HostRuntime) -> Result<(), Fail> {
+    let heap = rt.alloc();
+    let policy = open_policy(&rt, heap);
+    let places = Places {
+        folder: "emptied",
+        first: "emptied/0000000001.db",
+        last: "emptied/0000000002.db",
+    };
+    let Places { folder, first, .. } = places;
+    let made = two_volumes(&rt, &policy, places, &addition(&rt, heap, 1, 7)?);
+    assert!(&rt; made.is_ok(), "{made:?}");
+    match check_store(&rt, folder) {
+        Ok(checked) => assert_eq!(&rt; (checked.volumes, checked.records), (2, 1)),
+        Err(fault) => panic!(&rt; "not right: {fault}"),
+    }
+    // Behind them one that was half made: the store is right.
+    assert!(&rt; fs::write(&rt, "emptied/0000000003.db", b"").is_ok());
+    match check_store(&rt, folder) {
+        Ok(checked) => assert_eq!(&rt; (checked.volumes, checked.records), (2, 1)),
+        Err(fault) => panic!(&rt; "not right: {fault}"),
+    }
+    assert!(&rt; fs::remove_file(&rt, "emptied/0000000003.db").is_ok());
+    assert!(&rt; fs::write(&rt, first, b"").is_ok());
+    match check_store(&rt, folder) {
+        Ok(_) => panic!(&rt; "right"),
+        Err(fault) => assert!(&rt; is_emptied(&fault, first), "{fault}"),
+    }
+    let mut output = Vec::new(heap);
+    let told = export_records(&rt, folder, &mut output);
+    assert!(&rt; tells_of_emptied(&told, first), "{told:?}");
+    let told = list_store(&rt, folder, &mut output);
+    assert!(&rt; tells_of_emptied(&told, first), "{told:?}");
+    assert!(&rt; output.is_empty());
+    // Features are in the last volume alone.
+    let told = export_features(&rt, folder, &mut output);
+    assert!(&rt; told.is_ok(), "{told:?}");
+    assert_eq!(&rt;
+        output.as_slice(),
+        b"7,1,north,mast,\"POINT (3 4)\"\n".as_slice()
+    );
+    Ok(())
+}
+
+/// Two volumes that have not begun are never the work of a stop: nothing begins before them, and
+/// nothing is removed.
+#[test]
+fn two_emptied_volumes_end_a_start(rt: HostRuntime) -> Result<(), Fail> {
+    let heap = rt.alloc();
+    let policy = open_policy(&rt, heap);
+    let places = Places {
+        folder: "two_emptied",
+        first: "two_emptied/0000000001.db",
+        last: "two_emptied/0000000002.db",
+    };
+    let Places { folder, last, .. } = places;
+    let made = two_volumes(&rt, &policy, places, &addition(&rt, heap, 1, 7)?);
+    assert!(&rt; made.is_ok(), "{made:?}");
+    assert!(&rt; fs::write(&rt, last, b"").is_ok());
+    assert!(&rt; fs::write(&rt, "two_emptied/0000000003.db", b"").is_ok());
+    for _ in 0..2u32 {
+        match opened(&rt, &policy, folder) {
+            Err(fault) => assert!(&rt; is_emptied(&fault, last), "{fault}"),
+            Ok(_) => panic!(&rt; "opened"),
+        }
+    }
+    assert!(&rt; matches!(fs::exists(&rt, last), Ok(true)));
+    assert!(&rt; matches!(fs::exists(&rt, "two_emptied/0000000003.db"), Ok(true)));
+    let mut output = Vec::new(heap);
+    let told = export_features(&rt, folder, &mut output);
+    assert!(&rt; tells_of_emptied(&told, last), "{told:?}");
+    assert!(&rt; output.is_empty());
+    Ok(())
 }
 
 #[test]
