@@ -68,6 +68,18 @@ row,id,code,rule,place
 8,,I2,,
 END
 )" ] || fail "refused: $(cat rows.csv.refused.csv)"
+# A script of the same file, with the lines of rows that are features, leaves that as it is.
+cp rows.csv.refused.csv kept.csv
+"$program" import --script $as --split rows.csv > rows.map 2> said.err || fail "no script: status $?"
+[ "$(cat said.err)" = "landmap: rows.csv.refused.csv stays as it is up to row 9, as rows.csv.done says" ] || fail "a script says $(cat said.err)"
+cmp kept.csv rows.csv.refused.csv || fail "a script has changed what was refused: $(cat rows.csv.refused.csv)"
+[ "$(grep -c 'ADD' rows.map)" = 6 ] || fail "the script: $(cat rows.map)"
+# Without an import it tells of its own.
+cp rows.csv tried.csv
+"$program" import --script $as tried.csv > tried.map 2> said.err || fail "no script: status $?"
+[ ! -s said.err ] || fail "a script says $(cat said.err)"
+[ "$(cat tried.csv.refused.csv)" = "$(printf '%s\n' row,id,code,rule,place 3,,K3,,'byte 10' 4,,L4,, 6,,M2,,'byte 7' 7,,I1,, 8,,I2,,)" ] || fail "refused: $(cat tried.csv.refused.csv)"
+[ ! -e tried.csv.done ] || fail "a script has settled $(cat tried.csv.done) rows"
 # Once more from the start: what is there counts as done.
 rm rows.csv.done
 "$program" import --socket one.sock $as rows.csv > totals || fail "no second import: status $?"

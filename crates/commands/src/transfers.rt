@@ -190,6 +190,10 @@ impl FileBooks<'_> {
 
 impl Books for FileBooks<'_> {
     fn refuse_row(&mut self, row: u64, fault: &RowFault) -> Result<(), BooksFault> {
+        // Only a script comes to rows that are settled: what is told of them stays.
+        if row <= self.begun {
+            return Ok(());
+        }
         match put_refusal(self.rt.alloc(), row, fault, &mut self.refused) {
             Ok(()) => Ok(()),
             Err(_) => Err(BooksFault),
@@ -343,6 +347,46 @@ fn tell_import(fault: &ImportFault, row: u64, paths: &Paths, errors: &mut Stderr
     }
 }
 
+/// How many rows of the file of a script an import has settled. What is told of them stays, and
+/// standard error says so.
+fn settled_before(rt: &HostRuntime, paths: &Paths, errors: &mut Stderr) -> u64 {
+    let done = settled_rows(rt, paths.done.as_str());
+    if done > 0 {
+        let refused = paths.refused.as_str();
+        let path = paths.done.as_str();
+        let _ = write!(
+            errors,
+            "landmap: {refused} stays as it is up to row {done}, as {path} says\n"
+        );
+    }
+    done
+}
+
+/// The books of an import, of which so many rows were settled at the start. Its progress is kept
+/// and shown, if `keeps` is set.
+fn opened_books<'a>(
+    rt: &'a HostRuntime,
+    paths: &'a Paths,
+    begun: u64,
+    keeps: bool,
+) -> Result<FileBooks<'a>, BooksFault> {
+    let refused = refused_file(rt, paths.refused.as_str(), begun)?;
+    Ok(FileBooks {
+        rt,
+        done: if keeps {
+            Some(paths.done.as_str())
+        } else {
+            None
+        },
+        begun,
+        file: None,
+        refused,
+        errors: rt.stderr(),
+        shows: keeps && rt.stderr().is_terminal(),
+        shown: 0,
+    })
+}
+
 /// Imports the rows of a file into a sink.
 fn imported<S: Sink>(
     rt: &HostRuntime,
@@ -353,23 +397,14 @@ fn imported<S: Sink>(
     sink: &mut S,
     errors: &mut Stderr,
 ) -> Result<Totals, ExitCode> {
-    let Ok(refused) = refused_file(rt, paths.refused.as_str(), plan.done) else {
+    let begun = if keeps {
+        plan.done
+    } else {
+        settled_before(rt, paths, errors)
+    };
+    let Ok(mut books) = opened_books(rt, paths, begun, keeps) else {
         let path = paths.refused.as_str();
         return Err(tell_line(format_args!("landmap: cannot keep {path}\n"), errors));
-    };
-    let mut books = FileBooks {
-        rt,
-        done: if keeps {
-            Some(paths.done.as_str())
-        } else {
-            None
-        },
-        begun: plan.done,
-        file: None,
-        refused,
-        errors: rt.stderr(),
-        shows: keeps && rt.stderr().is_terminal(),
-        shown: 0,
     };
     let (end, totals) = {
         let mut import = Importing::new(rt.alloc(), plan, sink, &mut books);
