@@ -2,7 +2,7 @@
 
 use crate::faults::{RowFault, SourceFault};
 use crate::geometry_texts::read_geometry;
-use csv::{ByteRecord, ErrorKind, ReaderBuilder};
+use csv::{ByteRecord, ErrorKind, Reader, ReaderBuilder};
 use features::Name;
 use geojson::{Cause, Geometry, Wished, read_wished};
 use grid::Grid;
@@ -36,19 +36,30 @@ pub struct Table {
     class: Option<usize>,
 }
 
-/// The fields of a row. Faults: `Columns` where it has none, or they cannot be read; `Memory`.
+/// Reads the next record, and says whether there was one. Faults: `Columns` if it cannot be read, or
+/// has another number of fields than the one before; `Memory`.
+fn has_record(reader: &mut Reader<&[u8]>, record: &mut ByteRecord) -> Result<bool, RowFault> {
+    match reader.read_byte_record(record) {
+        Ok(read) => Ok(read),
+        Err(error) => match error.kind() {
+            ErrorKind::OutOfMemory => Err(RowFault::Memory),
+            _ => Err(RowFault::Columns),
+        },
+    }
+}
+
+/// The fields of a row. Faults: `Columns` where it has none, they cannot be read, or it is more than
+/// one record, as behind a quote in a field that is not quoted; `Memory`.
 fn fields_of(heap: Global, text: &[u8]) -> Result<ByteRecord, RowFault> {
     let mut reader = ReaderBuilder::new()
         .has_headers(false)
         .from_reader(heap, text);
     let mut record = ByteRecord::new(heap);
-    match reader.read_byte_record(&mut record) {
-        Ok(true) => Ok(record),
-        Ok(false) => Err(RowFault::Columns),
-        Err(error) => match error.kind() {
-            ErrorKind::OutOfMemory => Err(RowFault::Memory),
-            _ => Err(RowFault::Columns),
-        },
+    let mut further = ByteRecord::new(heap);
+    if has_record(&mut reader, &mut record)? && !has_record(&mut reader, &mut further)? {
+        Ok(record)
+    } else {
+        Err(RowFault::Columns)
     }
 }
 

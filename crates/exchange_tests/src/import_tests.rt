@@ -253,6 +253,21 @@ fn rows_have_the_columns_of_the_first(rt: HostRuntime) -> Result<(), Fail> {
     )
 }
 
+/// A quote in a field that is not quoted makes one row of what stands before the next quote: it is
+/// refused whole, and the row behind it is taken.
+#[test]
+fn a_row_of_two_records_is_refused(rt: HostRuntime) -> Result<(), Fail> {
+    imports(
+        &rt,
+        rt.alloc(),
+        plan(),
+        "WKT,id,class\nPOINT (1 2),7,6\" pipe\nPOINT (3 4),8,5\" pipe\nPOINT (5 6),9,x\n",
+        "2 9 POINT (5 6);\n",
+        "1,,J2,,\nsettled 2\n",
+        true,
+    )
+}
+
 #[test]
 fn lists_have_sixteen(rt: HostRuntime) -> Result<(), Fail> {
     let mut file = Vec::new(rt.alloc());
