@@ -265,6 +265,9 @@ where
                 .spawn(move || accept_all(rt, listener, stop, to))
                 .is_err()
             {
+                // This ends the accepting of HTTP.
+                drop(web_from);
+                wake(rt, options.web);
                 return Err(ServerFault::NoWorker);
             }
             let arrivals = from;
@@ -272,7 +275,7 @@ where
             let reception = room.reception(&web_arrivals);
             let relay = Relay {
                 heap,
-                workers,
+                workers: workers.clamp(1, WORKER_LIMIT),
                 features,
                 lasting,
                 arrivals: &arrivals,
@@ -319,7 +322,57 @@ where
     }
 }
 
-/// Writes that the server listens, and serves the connections that come.
+/// Writes that the server listens, and serves connections without end.
+fn serve_endless<H, R>(
+    rt: &R,
+    own: H,
+    heap: Global,
+    path: &str,
+    serving: Serving,
+    options: SocketOptions<'_>,
+    records: u64,
+    lasting: Option<Lasting<'_>>,
+    bound: Bound,
+    web_listener: Option<WebListener>,
+) -> Result<Closed, ServerFault>
+where
+    H: Wait + Copy + Drop + Send,
+    R: Threads
+        + Wait
+        + Clock
+        + Log
+        + Files<File = File>
+        + Net<Stream = TcpStream, Listener = TcpListener>
+        + Print
+        + Sync,
+    ensures { IfOk result (IsRelayed (opening_of serving.subjects serving.begins)) }
+{
+    let Bound { listener, file } = bound;
+    let place = match options.web {
+        Some(web) => Some(web.place),
+        None => None,
+    };
+    tell_ready(rt, heap, path, place)?;
+    note(options.stop, file);
+    let own_stop = Stop::new();
+    let stop = options.stop.unwrap_or(&own_stop);
+    serve_until(
+        rt,
+        own,
+        heap,
+        path,
+        serving,
+        options,
+        records,
+        lasting,
+        listener,
+        web_listener,
+        stop,
+    )
+}
+
+/// Writes that the server listens, and serves the connections that come. A socket of HTTP is gone
+/// behind it, whatever comes of it.
 fn serve_listener<H, R>(
     rt: &R,
     own: H,
@@ -343,9 +396,9 @@ where
     ensures { IfOk result
         (ServedAs options.entry.connections (opening_of serving.subjects serving.begins)) }
 {
-    let Bound { listener, file } = bound;
     match options.connections {
         Connections::UpTo(connections) => {
+            let Bound { listener, file } = bound;
             tell_ready(rt, heap, path, None)?;
             note(options.stop, file);
             serve_some(
@@ -361,19 +414,11 @@ where
         }
         Connections::Endless(records) => {
             let web_listener = listened_web(rt, options.web, options.takeover)?;
-            let place = match options.web {
-                Some(web) => Some(web.place),
-                None => None,
-            };
-            tell_ready(rt, heap, path, place)?;
-            note(options.stop, file);
             let web_file = match &web_listener {
                 Some(listener) => listener.file(),
                 None => None,
             };
-            let own_stop = Stop::new();
-            let stop = options.stop.unwrap_or(&own_stop);
-            let served = serve_until(
+            let served = serve_endless(
                 rt,
                 own,
                 heap,
@@ -382,9 +427,8 @@ where
                 options,
                 records,
                 lasting,
-                listener,
+                bound,
                 web_listener,
-                stop,
             );
             if let Some(web) = options.web {
                 remove_web(rt, web.place, web_file);
