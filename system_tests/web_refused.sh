@@ -1,5 +1,5 @@
 # What a server with HTTP refuses at its start: a configuration without a grid, a socket without an address for links, an address that is
-# not of this machine, one that another server has, a server that ends after some connections.
+# not of this machine, one that another server has, a server that ends after some connections, more workers than there may be.
 source "$(dirname "$0")/parts.bash"
 web_configuration
 grep -v '"grid"' map.json > flat.json
@@ -17,6 +17,8 @@ refused 1 "HTTP needs a grid" --config flat.json --http 127.0.0.1:8080
 refused 1 '"public"' --config map.json --http-socket web.sock
 refused 2 "on this machine alone" --config map.json --http 0.0.0.0:8080
 refused 2 "4000001 is not in 1..=4000000" --features 4000001
+refused 1 "at most 1024 together" --config map.json --http 127.0.0.1:8080 --workers 1017
+refused 1 "at most 1024 together" --config map.json --http 127.0.0.1:8080 --workers 2 --http-workers 1023
 refused 2 "--connections" --config map.json --http 127.0.0.1:8080 --connections 4
 refused 1 "cannot bind nowhere/web.sock" --config <(sed 's/"anonymous"/"public": "https:\/\/maps.example", "anonymous"/' map.json) --http-socket nowhere/web.sock
 mkfifo input

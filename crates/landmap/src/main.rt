@@ -185,7 +185,10 @@ fn planned(rt: &HostRuntime, server: WantedServer<'_>) -> Result<Plan, WebFault>
     } = config;
     let keys = copied(heap, web.keys.as_slice())?;
     let web = match http {
-        Some(word) => Some(WebPlan::new(rt, word, http_workers, grid, web)?),
+        Some(word) => {
+            let lines = options.workers;
+            Some(WebPlan::new(rt, word, lines, http_workers, grid, web)?)
+        }
         None => None,
     };
     let watched = match &web {

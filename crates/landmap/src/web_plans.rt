@@ -6,7 +6,7 @@ use map_metrics::Tally;
 use map_page::PAGE;
 use map_pages::Site;
 use memory::{NoMemory, NotStored, another, copied, shared, text};
-use server::{Web, WebPlace};
+use server::{WORKER_LIMIT, Web, WebPlace};
 use std::alloc::Global;
 use std::hash::RandomState;
 use std::io::Write;
@@ -29,6 +29,8 @@ pub(crate) enum WebFault {
     NoPublic,
     /// A proxy is to say who asks, and there is none before an address.
     NoProxy,
+    /// There are more workers, of lines and of HTTP together, than a server can have.
+    Workers,
     /// The host gives no random numbers.
     NoRandom,
     /// Out of memory.
@@ -44,6 +46,7 @@ impl WebFault {
                 "HTTP on a Unix socket needs \"public\" in the configuration: what links begin with",
             WebFault::NoProxy =>
                 "\"trusted-field\" is for a proxy before a Unix socket: --http-socket, not --http",
+            WebFault::Workers => "--workers and --http-workers are at most 1024 together",
             WebFault::NoRandom => "HTTP needs random numbers, and the host gives none",
             WebFault::Memory(_) => "out of memory",
         }
@@ -109,10 +112,12 @@ fn base(
 }
 
 impl WebPlan {
-    /// What is answered at this place, about the features of this configuration.
+    /// What is answered at this place, about the features of this configuration, beside so many
+    /// workers of lines.
     pub(crate) fn new(
         rt: &HostRuntime,
         word: HttpWord<'_>,
+        line_workers: u16,
         workers: Option<u16>,
         grid: Option<Grid>,
         said: configuration::Web<Global>,
@@ -125,6 +130,10 @@ impl WebPlan {
             if said.trusted_field {
                 return Err(WebFault::NoProxy);
             }
+        }
+        let workers = usize::from(workers.unwrap_or(DEFAULT_HTTP_WORKERS));
+        if usize::from(line_workers) + workers > WORKER_LIMIT {
+            return Err(WebFault::Workers);
         }
         let Ok(random) = RandomState::new(rt) else {
             return Err(WebFault::NoRandom);
@@ -142,7 +151,7 @@ impl WebPlan {
             grid,
             said,
             random,
-            workers: usize::from(workers.unwrap_or(DEFAULT_HTTP_WORKERS)),
+            workers,
             tally: shared(heap, Tally::new())?,
         })
     }
