@@ -131,8 +131,9 @@ def main():
     WORK = tempfile.mkdtemp()
     subprocess.run(["cc", "-O2", "-pthread", "-o", os.path.join(WORK, "asker"), os.path.join(HERE, "asker.c")], check=True)
     path = os.path.join(WORK, "landmap.sock")
-    server = subprocess.Popen([arguments.program, "serve", "--socket", path, "--connections", "1024", "--workers", "20"],
-                              stdout=subprocess.PIPE, text=True)
+    # What the mix adds stays, and the commits behind it need room too.
+    server = subprocess.Popen([arguments.program, "serve", "--socket", path, "--connections", "1024", "--workers", "20",
+                               "--features", "1000000"], stdout=subprocess.PIPE, text=True)
     try:
         measure(path, server, arguments.features, arguments.seconds)
     finally:

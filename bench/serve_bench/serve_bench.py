@@ -138,6 +138,8 @@ def main():
     clients = [int(count) for count in arguments.clients.split(",")]
     for name, file, count, batch in cases(arguments.features, clients, WORK):
         rate, middle, late, size = asked(path, count, arguments.seconds, batch, file, ["HELLO north"])
+        # A trail takes 1,048,576 records; behind them each search is refused by a line of ten bytes.
+        assert name == "empty window" or size > 100, "the trail is full: give fewer --seconds"
         echo_rate, echo_middle, echo_late, _ = answered(count, arguments.seconds, batch, file, size)
         print(f"{name:13} {count:3} clients, {batch:2} a batch: {rate:9.0f} a second, {middle:8.1f} us, {late:8.1f} us; "
               f"{size:9.1f} bytes; in C {echo_rate:9.0f}, {echo_middle:8.1f} us, {echo_late:8.1f} us; ratio {middle / echo_middle:5.2f}")
