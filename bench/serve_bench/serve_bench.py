@@ -107,9 +107,10 @@ def commits(path, by, count):
     session = Session(path, "north")
     begun = time.time()
     for at in range(count):
-        lines = [f"ADD {10_000_000 + at * by + i} mast POINT ({chance.randint(-SIZE, SIZE)} {chance.randint(-SIZE, SIZE)})"
+        lines = [f"ADD {10_000_000 * by + at * by + i} mast POINT ({chance.randint(-SIZE, SIZE)} {chance.randint(-SIZE, SIZE)})"
                  for i in range(by)]
-        session.ask("\n".join(lines + ["COMMIT"]), by + 1)
+        reply = session.ask("\n".join(lines + ["COMMIT"]), by + 1)[-1]
+        assert reply.startswith("applied "), reply
     took = (time.time() - begun) / count * 1e6
     session.ask("BYE", 1)
     print(f"commit of {by}: {took:.1f} us, as one request with its ADD lines")
@@ -128,7 +129,8 @@ def main():
     for name in ("answerer", "asker"):
         subprocess.run(["cc", "-O2", "-pthread", "-o", os.path.join(WORK, name), os.path.join(HERE, name + ".c")], check=True)
     path = os.path.join(WORK, "landmap.sock")
-    more = ["--features", str(2 * arguments.features)] if arguments.features > USUAL else []
+    # The commits at the end add to those that were loaded.
+    more = ["--features", str(2 * max(arguments.features, USUAL))]
     server = subprocess.Popen([arguments.program, "serve", "--socket", path, "--connections", "1024",
                                "--workers", str(arguments.workers)] + more, stdout=subprocess.PIPE, text=True)
     assert server.stdout.readline() == f"listening {path}\n"
