@@ -54,7 +54,7 @@ WKT,id,class
 "POINT (100 4)",6,
 "POINT (100 4)",7,mast
 END
-server one one.sock --connections 4 --config agency.json
+server one one.sock --connections 5 --config agency.json
 "$program" import --socket one.sock $as rows.csv > totals || fail "no import: status $?"
 [ "$(cat totals)" = "$(printf '%s\n' 'rows 9' 'applied 2' 'present 0' 'refused 7')" ] || fail "totals: $(cat totals); $(cat rows.csv.refused.csv)"
 [ "$(sort rows.csv.refused.csv)" = "$(sort <<'END'
@@ -88,6 +88,15 @@ rm rows.csv.done
 cp rows.csv whole.csv
 says "a row is refused, see whole.csv.refused.csv" import --socket one.sock $as --whole whole.csv
 [ ! -e whole.csv.done ] || fail "whole.csv has settled $(cat whole.csv.done) rows"
+# A book that cannot grow is named: here the one of what is refused has room for 1,024 bytes.
+{ echo WKT,id,class; for row in {1..400}; do echo "POINT (x),$row,mast"; done; } > many.csv
+(
+    trap '' XFSZ
+    ulimit -f 1
+    "$program" import --socket one.sock $as many.csv > totals 2>&1
+    [ "$?" = 1 ]
+) || fail "an import whose book is full ends well"
+grep -qx 'landmap: cannot keep many.csv.refused.csv' totals || fail "an import whose book is full: $(cat totals)"
 # Lines are cut, and numbered.
 cat > cut.csv <<'END'
 WKT,id

@@ -210,7 +210,8 @@ Exit status:
   0  all sessions have ended, and their records are those of the trail
   1  one line on standard error says why: `landmap: cannot read FILE`,
      `landmap: cannot bind PATH`, `landmap: cannot start a worker`,
-     `landmap: cannot write`, or `landmap: CODE`, where CODE is
+     `landmap: cannot write`, `error: ..` where HTTP cannot begin as it is
+     wanted, or `landmap: CODE`, where CODE is
 
        B1, B2, N1 to N3, D2 to D8
                  the configuration is at fault: `landmap script --help` has how
@@ -376,6 +377,7 @@ Exit status:
      `landmap: cannot connect PATH`, `landmap: the server answers REPLY`,
      `landmap: the server has ended the connection` or another line that begins
      so, `landmap: no name NAME`, `landmap: out of memory`,
+     `landmap: LANDMAP_SECRET is no secret, or cannot be read`,
      `landmap: cannot write`, or `landmap: CODE`, where CODE is
 
        B1, B2, N1 to N3, D2 to D8, B5
@@ -444,6 +446,7 @@ Exit status:
      `landmap: the server has ended the connection` or another line that begins
      so, `landmap: a row is refused, see FILE.refused.csv` (with --whole),
      `landmap: no name NAME`, `landmap: out of memory`,
+     `landmap: LANDMAP_SECRET is no secret, or cannot be read`,
      `landmap: cannot write`, `landmap: CODE` of the configuration, as
      `landmap script --help` has it, or `landmap: CODE behind row R`, where CODE is
 

@@ -168,6 +168,8 @@ struct FileBooks<'a> {
     /// The file at that path, from the first rows on that are settled.
     file: Option<File>,
     refused: File,
+    /// Whether the file of refused rows could not be written.
+    refused_fails: bool,
     errors: Stderr,
     /// Whether the progress is shown.
     shows: bool,
@@ -176,6 +178,12 @@ struct FileBooks<'a> {
 }
 
 impl FileBooks<'_> {
+    /// Remembers that it was the file of refused rows that could not be written.
+    fn refused_lost(&mut self) -> BooksFault {
+        self.refused_fails = true;
+        BooksFault
+    }
+
     /// Shows the progress at a terminal.
     fn show(&mut self, totals: &Totals) {
         if self.shows && totals.rows >= self.shown.saturating_add(SHOWN_EVERY) {
@@ -196,14 +204,14 @@ impl Books for FileBooks<'_> {
         }
         match put_refusal(self.rt.alloc(), row, fault, &mut self.refused) {
             Ok(()) => Ok(()),
-            Err(_) => Err(BooksFault),
+            Err(_) => Err(self.refused_lost()),
         }
     }
 
     fn refuse_reply(&mut self, refused: &Refused<Global>) -> Result<(), BooksFault> {
         match put_reply(refused, &mut self.refused) {
             Ok(()) => Ok(()),
-            Err(_) => Err(BooksFault),
+            Err(_) => Err(self.refused_lost()),
         }
     }
 
@@ -318,8 +326,15 @@ impl fmt::Display for Account {
     }
 }
 
-/// Tells why an import has ended at a row.
-fn tell_import(fault: &ImportFault, row: u64, paths: &Paths, errors: &mut Stderr) -> ExitCode {
+/// Tells why an import has ended at a row. `book` is the path of that one of its books which could
+/// not be written, if one could not.
+fn tell_import(
+    fault: &ImportFault,
+    row: u64,
+    paths: &Paths,
+    book: &str,
+    errors: &mut Stderr,
+) -> ExitCode {
     match fault {
         ImportFault::Source(fault) => tell_line(
             format_args!("landmap: {fault} behind row {row}\n"),
@@ -333,10 +348,7 @@ fn tell_import(fault: &ImportFault, row: u64, paths: &Paths, errors: &mut Stderr
             format_args!("landmap: cannot write\n"),
             errors,
         ),
-        ImportFault::Books => {
-            let done = paths.done.as_str();
-            tell_line(format_args!("landmap: cannot keep {done}\n"), errors)
-        }
+        ImportFault::Books => tell_line(format_args!("landmap: cannot keep {book}\n"), errors),
         ImportFault::Refused => {
             let refused = paths.refused.as_str();
             tell_line(
@@ -381,6 +393,7 @@ fn opened_books<'a>(
         begun,
         file: None,
         refused,
+        refused_fails: false,
         errors: rt.stderr(),
         shows: keeps && rt.stderr().is_terminal(),
         shown: 0,
@@ -416,7 +429,14 @@ fn imported<S: Sink>(
     }
     match end {
         Ok(()) => Ok(totals),
-        Err(fault) => Err(tell_import(&fault, totals.rows, paths, errors)),
+        Err(fault) => {
+            let book = if books.refused_fails {
+                paths.refused.as_str()
+            } else {
+                paths.done.as_str()
+            };
+            Err(tell_import(&fault, totals.rows, paths, book, errors))
+        }
     }
 }
 

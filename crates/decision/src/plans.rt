@@ -65,6 +65,15 @@ impl<A: Allocator> Plan<A> {
         if document.zone_count() == 0 {
             return self.verdict_by(question, &[]);
         }
+        self.verdict_in_zones(document, question)
+    }
+
+    /// What `document` decides, by the zones of it that the question's shape meets.
+    fn verdict_in_zones<D: Allocator>(&self, document: &Document<D>, question: &Question) -> Verdict
+        requires { Decides A self.now document.now.root question.now }
+        ensures { Answers document.now question.now result }
+    {
+        let _root = document.root();
         let met = met_zones(document, &question.shape, question.class);
         self.verdict_by(question, met.as_slice())
     }

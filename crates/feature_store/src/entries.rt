@@ -64,6 +64,18 @@ fn even_place(first: u64, last: u64, count: usize, number: u64) -> usize
     (place as usize).min(count)
 }
 
+/// Whether `index_in` finds this index.
+fn is_index_in(entries: &[Entry], at: usize, id: u64) -> bool
+    requires { at ≤ length entries.now }
+    ensures before { IsTrue result → 0 < at → (entry_at entries.now (at - 1)).id < id }
+    ensures behind { IsTrue result → at < length entries.now → id ≤ (entry_at entries.now at).id }
+{
+    if at > 0 && entries[at - 1].id >= id {
+        return false;
+    }
+    at == entries.len() || id <= entries[at].id
+}
+
 /// Bounds of the index that `index_in` finds: near where it would be if the ids rose evenly, or else
 /// those of all entries.
 fn bounds_in(entries: &[Entry], id: u64) -> Bounds
@@ -81,6 +93,12 @@ fn bounds_in(entries: &[Entry], id: u64) -> Bounds
         };
     }
     let place = even_place(entries[0].id, entries[count - 1].id, count, id);
+    if is_index_in(entries, place, id) {
+        return Bounds {
+            low: place,
+            high: place,
+        };
+    }
     let mut bounds = Bounds {
         low: 0,
         high: count,
@@ -149,6 +167,12 @@ fn bounds_for(blocks: &[Block], id: u64) -> Bounds
         return bounds;
     }
     let place = even_place(end_of(&blocks[0]), end_of(&blocks[last - 1]), last - 1, id);
+    if is_block_for(blocks, place, id) {
+        return Bounds {
+            low: place,
+            high: place,
+        };
+    }
     if place > BLOCKS_NEAR && ends_below(&blocks[place - BLOCKS_NEAR - 1], id) {
         bounds.low = place - BLOCKS_NEAR;
     }
@@ -198,8 +222,23 @@ fn is_block_for(blocks: &[Block], at: usize, id: u64) -> bool
     at + 1 == blocks.len() || !ends_below(&blocks[at], id)
 }
 
-/// The block that `block_for` finds, which may be the one at `near`.
-fn block_near(blocks: &[Block], near: usize, id: u64) -> usize
+/// The block of an id, by about where the blocks end; there may be fewer.
+fn block_by_ends(ends: &[u64], id: u64) -> usize {
+    let mut low = 0;
+    let mut high = ends.len();
+    while low < high {
+        let middle = low + (high - low) / 2;
+        if ends[middle] < id {
+            low = middle + 1;
+        } else {
+            high = middle;
+        }
+    }
+    low
+}
+
+/// The block that `block_for` finds, which may be the one at `near`, or the one that `ends` tell.
+fn block_near(blocks: &[Block], ends: &[u64], near: usize, id: u64) -> usize
     requires some { 0 < length blocks.now }
     requires filled { AreFilled blocks.now }
     ensures within { result < length blocks.now }
@@ -210,7 +249,29 @@ fn block_near(blocks: &[Block], near: usize, id: u64) -> usize
     if is_block_for(blocks, near, id) {
         return near;
     }
+    let told = block_by_ends(ends, id);
+    if is_block_for(blocks, told, id) {
+        return told;
+    }
     block_for(blocks, id)
+}
+
+/// Makes room for the ends of some more blocks, but not of more than a list can add.
+fn room_for_ends<A: Allocator>(ends: &mut Vec<u64, A>, blocks: usize) -> Result<(), NoMemory> {
+    ends.make_room(blocks.min(LIST_LIMIT + 1))
+}
+
+/// Notes where the blocks end, as far as there is room.
+fn note_ends<A: Allocator>(ends: &mut Vec<u64, A>, blocks: &[Block]) {
+    ends.clear();
+    for block in blocks {
+        if ends.len() == ends.capacity() {
+            return;
+        }
+        if let Some(entry) = block.as_slice().last() {
+            ends.push_reserved(entry.id);
+        }
+    }
 }
 
 /// The position of an id, or where it would be inserted, in the block that `block_for` finds.
@@ -363,8 +424,8 @@ fn place_of(blocks: &[Block], id: u64) -> Option<u32>
 }
 
 /// The place of an id. It is looked for first in the block at `near`, which is then the one in which
-/// it is, or would be.
-fn place_near(blocks: &[Block], near: &mut usize, id: u64) -> Option<u32>
+/// it is, or would be; then in the one that `ends` tell.
+fn place_near(blocks: &[Block], ends: &[u64], near: &mut usize, id: u64) -> Option<u32>
     requires filled { AreFilled blocks.now }
     requires rising { AreRising (ids_in (entries_of blocks.now)) }
     ensures found { IfSome result (λ place. HasPlace id place (entries_of blocks.now)) }
@@ -373,7 +434,7 @@ fn place_near(blocks: &[Block], near: &mut usize, id: u64) -> Option<u32>
     if blocks.is_empty() {
         return None;
     }
-    let block = block_near(blocks, *near, id);
+    let block = block_near(blocks, ends, *near, id);
     *near = block;
     match find_in(blocks, block, id) {
         Ok(position) => Some(place_in(blocks, position)),
@@ -624,6 +685,8 @@ fn copy_blocks<A: Allocator, B: Allocator>(
 #[derive(Debug, Drop)]
 pub(crate) struct Entries<A: Allocator> {
     blocks: Vec<Block, A>,
+    /// About where each block ends, beside one another: what is looked at first. Nothing rests on it.
+    ends: Vec<u64, A>,
 }
 
 impl<A: Allocator> Model for Entries<A> {
@@ -640,16 +703,19 @@ impl<A: Allocator> Model for Entries<A> {
     ghost invariant = { λ e. AreFilled e.blocks.items };
 }
 
-impl<A: Allocator> Entries<A> {
+impl<A: Allocator + Copy> Entries<A> {
     /// No entries. Allocates nothing.
     pub(crate) fn new(alloc: A) -> Self
         ensures { result.items ≡ [] }
     {
         Entries {
             blocks: Vec::new(alloc),
+            ends: Vec::new(alloc),
         }
     }
+}
 
+impl<A: Allocator> Entries<A> {
     /// The place of an id.
     pub(crate) fn place_of(&self, id: u64) -> Option<u32>
         requires { AreRising (ids_in self.now.items) }
@@ -665,7 +731,7 @@ impl<A: Allocator> Entries<A> {
         ensures found { IfSome result (λ place. HasPlace id place self.now.items) }
         ensures missing { IfNone result (HasGap id self.now.items) }
     {
-        place_near(&self.blocks, near, id)
+        place_near(&self.blocks, &self.ends, near, id)
     }
 
     /// The place at an index. It walks over the blocks.
@@ -702,6 +768,7 @@ impl<A: Allocator> Entries<A> {
             return Ok(());
         }
         let blocks = additional.min((count + additional) / HALF + 1) + 1;
+        room_for_ends(&mut self.ends, blocks)?;
         self.blocks.make_room(blocks)
     }
 
@@ -713,7 +780,11 @@ impl<A: Allocator> Entries<A> {
         ensures inserted { IsInserted entry self.old.items self.new.items }
         ensures room { self.old.room ≤ self.new.room + 1 }
     {
+        let before = self.blocks.len();
         insert(&mut self.blocks, entry);
+        if self.blocks.len() != before {
+            note_ends(&mut self.ends, &self.blocks);
+        }
     }
 
     /// Removes the entry of an id, and returns its place.
@@ -724,7 +795,12 @@ impl<A: Allocator> Entries<A> {
         ensures missing { IfNone result (HasGap id self.old.items) }
         ensures room { self.old.room ≤ self.new.room }
     {
-        remove(&mut self.blocks, id)
+        let before = self.blocks.len();
+        let place = remove(&mut self.blocks, id);
+        if self.blocks.len() != before {
+            note_ends(&mut self.ends, &self.blocks);
+        }
+        place
     }
 
     /// Changes the place of an id to `to`, if it is `from`.

@@ -108,10 +108,11 @@ impl<'a, 'h, L: HallName, R: Wait + Drop, A: Allocator + Copy, W: Wait, P: Pause
         }
     }
 
-    /// Counts a search that is answered, if there is a tally.
-    fn count_search(&self) {
+    /// Counts a search that is answered by so many rows, if there is a tally.
+    fn count_search(&self, rows: usize) {
         if let Some(tally) = self.tally {
             tally.count_event(Event::Searched);
+            tally.count_rows(rows);
         }
     }
 }
@@ -167,7 +168,7 @@ impl<'a, 'h, L: HallName, R: Wait + Drop, A: Allocator + Copy, W: Wait, P: Pause
         };
         match seat.search(self.rt, window, self.pause) {
             Ok(answer) => {
-                self.count_search();
+                self.count_search(answer.rows().len());
                 Said::Rows(answer)
             }
             Err(fault) => Said::Line(hall_reply(fault)),

@@ -264,12 +264,17 @@ impl<R: Clock> Read for VisitorReader<'_, '_, R> {
     }
 }
 
-/// Writes to a connection, and counts the bytes in the turn. A client that takes nothing for too
-/// long, or when the turn is over, is given up.
+/// How many bytes a row of an answer leaves in its record: its id and its version.
+const ROW_BYTES: u64 = 16;
+
+/// Writes to a connection, and counts the bytes in the turn, with those that answers leave in their
+/// records: a page has some rows of an answer, and the record all of them. A client that takes
+/// nothing for too long, or when the turn is over, is given up.
 #[derive(Drop)]
 struct VisitorWriter<'a, 'x> {
     stream: &'a WebStream,
     turn: &'x Turn,
+    tally: &'x Tally,
     patience: u64,
     written: &'a AtomicU64,
 }
@@ -281,6 +286,8 @@ impl Write for VisitorWriter<'_, '_> {
             match self.stream.write_once(bytes) {
                 Ok(count) => {
                     self.turn.count(count);
+                    let kept = self.tally.take_rows().saturating_mul(ROW_BYTES);
+                    self.turn.count(kept as usize);
                     self.written.store(1, Ordering::SeqCst);
                     return Ok(count);
                 }
@@ -320,6 +327,7 @@ impl Visitor {
         let counted = VisitorWriter {
             stream: &self.stream,
             turn,
+            tally: reception.tally,
             patience: reception.patience,
             written: &written,
         };

@@ -38,6 +38,8 @@ pub struct Tally {
     policies: AtomicU64,
     records: AtomicU64,
     memory: AtomicU64,
+    /// The rows of answers that nobody has taken into account yet.
+    listed: AtomicU64,
 }
 
 /// Adds one.
@@ -64,6 +66,7 @@ impl Tally {
             policies: AtomicU64::new(0),
             records: AtomicU64::new(0),
             memory: AtomicU64::new(0),
+            listed: AtomicU64::new(0),
         }
     }
 
@@ -89,6 +92,16 @@ impl Tally {
             Event::Governed => count(&self.policies),
         }
         count(&self.records);
+    }
+
+    /// Counts the rows of an answer: each stays in its record, also where few of them are sent.
+    pub fn count_rows(&self, rows: usize) {
+        self.listed.fetch_add(rows as u64, Ordering::Relaxed);
+    }
+
+    /// The rows of answers that were counted since this was asked for the last time.
+    pub fn take_rows(&self) -> u64 {
+        self.listed.swap(0, Ordering::Relaxed)
     }
 
     /// Notes how many bytes of the server's memory are in RAM.

@@ -13,10 +13,14 @@ use audit_trail::{Deed, Record};
 use decision::{Reading, Ruling};
 use feature_store::{Meter, Store};
 use features::{Action, Feature};
-use memory::{GrowVec, NoMemory};
+use memory::{GrowVec, NoMemory, vec_with_room};
 use plane::Shape;
 use std::alloc::Allocator;
 use windows::Window;
+
+/// How many rows, ids or versions a list has room for from the beginning, at most. Where there are
+/// more, it grows.
+const ROOM_AT_ONCE: usize = 256;
 
 /// The found ids, by rising id and each once. Fails only where an allocation is refused.
 pub(crate) fn ids_found<A: Allocator>(
@@ -79,7 +83,7 @@ pub(crate) fn listed<A: Allocator>(
     fact_ticks_within(meter);
     let prepared = Window::new(*window);
     let mut lookup = store.lookup();
-    let mut rows = Vec::new(alloc);
+    let mut rows = vec_with_room(alloc, ids.len().min(ROOM_AT_ONCE))?;
     for id in ids {
         if let Some(feature) = lookup.get(*id, meter) {
             if shows(reading, &prepared, &feature)? {
@@ -164,7 +168,7 @@ pub(crate) fn answered<A: Allocator + Copy>(
 fn ids_of<A: Allocator>(alloc: A, rows: &[Feature]) -> Result<Vec<u64, A>, NoMemory>
     ensures { IfOk result (λ ids. ids.items ≡ map (λ row. row.id) rows.now) }
 {
-    let mut ids = Vec::new(alloc);
+    let mut ids = vec_with_room(alloc, rows.len().min(ROOM_AT_ONCE))?;
     for row in rows {
         ids.try_push(row.id)?;
     }
@@ -174,7 +178,7 @@ fn ids_of<A: Allocator>(alloc: A, rows: &[Feature]) -> Result<Vec<u64, A>, NoMem
 fn versions_of<A: Allocator>(alloc: A, rows: &[Feature]) -> Result<Vec<u64, A>, NoMemory>
     ensures { IfOk result (λ versions. versions.items ≡ map (λ row. row.version) rows.now) }
 {
-    let mut versions = Vec::new(alloc);
+    let mut versions = vec_with_room(alloc, rows.len().min(ROOM_AT_ONCE))?;
     for row in rows {
         versions.try_push(row.version)?;
     }
