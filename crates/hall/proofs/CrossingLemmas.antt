@@ -53,12 +53,18 @@ module _ (L R : RattleType) (g : Ghosts L.Denot) (s : Stating L.Denot) (n : Nami
   pub hall_sync : IsSync (Hall.the_row L R heap h n s g ghosts)
   hall_sync =
       recorded_sync _ _ _ (Hall.the_type L R heap h n s g ghosts).to_one (struct_sync (shape (Hall.the_type L R heap h n s g ghosts)) (
-        rwlock.the_field_sync _ guarded_send guarded_sync,
+        (search (std.crosses, sendable) depth 20),
         (
-          mutex.the_sync _ lobby_send,
+          (search (std.crosses, sendable) depth 20),
           (
-            (search (std.crosses, sendable) depth 20),
-            (condvar.the_field_sync, (condvar.the_field_sync, (std.sync, (memory.the_field_sync, tt)))),
+            rwlock.the_field_sync _ guarded_send guarded_sync,
+            (
+              mutex.the_sync _ lobby_send,
+              (
+                (search (std.crosses, sendable) depth 20),
+                (condvar.the_field_sync, (condvar.the_field_sync, (std.sync, (memory.the_field_sync, tt)))),
+              ),
+            ),
           ),
         ),
       ))

@@ -30,7 +30,7 @@ fn waited_for<'h, L: HallName, R: Wait + Drop, A: Allocator + Copy, W: Wait>(
     let waiting = hall.waiting.lock(rt);
     drop(world);
     drop(ended.wait(rt, waiting));
-    hall.world.write(rt)
+    hall.write_world(rt)
 }
 
 /// Ends a try of a list that is refused. S3 waits first, and lets the world go, until a search ends,
@@ -93,7 +93,7 @@ fn committed<L: HallName, R: Wait + Drop, A: Allocator + Copy, W: Wait, P: Pause
     let mut committing = Committing::New;
     let mut tries = TRY_LIMIT;
     for _ in rt.forever() {
-        let mut world = hall.world.write(rt);
+        let mut world = hall.write_world(rt);
         let lobby = &hall.lobby;
         match world.commit_on(
             rt,

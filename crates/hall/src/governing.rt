@@ -42,8 +42,7 @@ fn governed<L: HallName, R: Wait + Drop, A: Allocator + Copy, W: Wait>(
     ensures err { OnErr result (share.new.amount ≡ share.old.amount) }
     ensures parts { share.new.parts ≡ share.old.parts }
 {
-    hall.world
-        .write(rt)
+    hall.write_world(rt)
         .govern(rt, &hall.lobby, hall.heap, seat, share, document)
 }
 
@@ -79,8 +78,7 @@ impl<'h, L: HallName, R: Wait + Drop, A: Allocator + Copy> Seat<'h, L, R, A> {
         ensures { self.new ≡ self.old }
     {
         let hall = self.hall;
-        hall.world
-            .write(rt)
+        hall.write_world(rt)
             .roll(rt, &hall.lobby, hall.heap, self.number)
     }
 }

@@ -25,6 +25,7 @@ use policy_documents::Document;
 use published_policies::{EmptyList, ListName, Publisher, View};
 use std::alloc::{Allocator, Global};
 use std::mem;
+use std::sync::atomic::AtomicBool;
 use std::sync::{Condvar, Mutex, RwLock, Wait};
 use world::{Base, Limits, ROLLED_LIMIT, STEP_LIMIT, Starts};
 
@@ -62,6 +63,11 @@ fn publish_first<L: ListName, R: Wait + Drop, A: Allocator>(
 /// Who takes several locks takes them in the order in which they stand here.
 #[derive(Drop)]
 pub struct Hall<L: HallName, R: Wait + Drop, A: Allocator> {
+    /// Of those who find the world taken and are to change it, one at a time looks for it.
+    pub(crate) turn: Mutex<()>,
+    /// Whether somebody looks for the world to change it: who reads lets him go first. Nothing
+    /// rests on it.
+    pub(crate) wanted: AtomicBool,
     pub(crate) world: RwLock<Guarded<L, A>>,
     /// The records of answers that the world has not taken in yet, and the published policies.
     pub(crate) lobby: Mutex<Lobby<L, R, A>>,
@@ -223,6 +229,8 @@ impl<L: HallName, R: Wait + Drop, A: Allocator + Copy> Hall<L, R, A> {
         let lobby = Lobby::new(tray, publisher, views);
         let guarded = Guarded::new(chronicle, chronicles, seen, limit, spare);
         Ok(Hall {
+            turn: Mutex::new(()),
+            wanted: AtomicBool::new(false),
             world: RwLock::new(guarded),
             lobby: Mutex::new(lobby),
             waiting: Mutex::new(false),
@@ -242,7 +250,7 @@ impl<L: HallName, R: Wait + Drop, A: Allocator + Copy> Hall<L, R, A> {
             (λ seat. subject_named name L.opening.subjects ≡ Some seat.subject) }
         ensures receipts { IfOk result (λ seat. seat.receipts ≡ []) }
     {
-        let (number, subject, share) = self.world.write(rt).seat(rt, &self.lobby, name)?;
+        let (number, subject, share) = self.write_world(rt).seat(rt, &self.lobby, name)?;
         Ok(Seat {
             hall: self,
             number,
@@ -258,7 +266,7 @@ impl<L: HallName, R: Wait + Drop, A: Allocator + Copy> Hall<L, R, A> {
     pub fn view<W: Wait>(&self, rt: &W) -> Result<View<L>, HallFault>
         ensures begins { IfOk result (λ view. slice_get view 0 ≡ Some L.opening.base.decider) }
     {
-        self.world.read(rt).view(rt, &self.lobby)
+        self.read_world(rt).view(rt, &self.lobby)
     }
 
     /// Tends the slots of the index that may have something to do, as far as the events so far tell:
@@ -270,7 +278,7 @@ impl<L: HallName, R: Wait + Drop, A: Allocator + Copy> Hall<L, R, A> {
     /// than the hall has noted. The world takes in the answers that were given meanwhile, where they
     /// are many. Where nothing has ended since the last round, no other search waits for this one.
     pub fn tend_round<W: Wait>(&self, rt: &W) -> Result<u32, HallFault> {
-        if self.world.read(rt).untaken(rt, &self.lobby)? >= MANY_ANSWERS {
+        if self.read_world(rt).untaken(rt, &self.lobby)? >= MANY_ANSWERS {
             self.take_in(rt);
         }
         if !mem::replace(&mut *self.waiting.lock(rt), false) {
@@ -278,7 +286,7 @@ impl<L: HallName, R: Wait + Drop, A: Allocator + Copy> Hall<L, R, A> {
         }
         let mut tended: u32 = 0;
         for _ in 0..SECTIONS {
-            let more = self.world.write(rt).tend_due()?;
+            let more = self.write_world(rt).tend_due()?;
             if more == 0 {
                 break;
             }
@@ -287,9 +295,9 @@ impl<L: HallName, R: Wait + Drop, A: Allocator + Copy> Hall<L, R, A> {
         if tended >= SECTIONS * SLOTS_AT_ONCE {
             *self.waiting.lock(rt) = true;
         }
-        let slots = self.world.write(rt).begin_round()?;
+        let slots = self.write_world(rt).begin_round()?;
         for first in (0..slots).step_by(SLOTS_AT_ONCE as usize) {
-            let more = self.world.write(rt).tend_from(first, slots)?;
+            let more = self.write_world(rt).tend_from(first, slots)?;
             tended = tended.saturating_add(more);
         }
         Ok(tended)
@@ -299,21 +307,21 @@ impl<L: HallName, R: Wait + Drop, A: Allocator + Copy> Hall<L, R, A> {
     /// `tend_round` makes it. What `tend_round` tends without it comes from a hint, which may miss a
     /// slot: so a server asks for such a round at long intervals.
     pub fn want_round<W: Wait>(&self, rt: &W) {
-        self.world.write(rt).want_round();
+        self.write_world(rt).want_round();
         *self.waiting.lock(rt) = true;
     }
 
     /// The world takes in the answers that were given since it was changed last. Those that it cannot
     /// take in yet wait: whoever records something next tries again.
     pub(crate) fn take_in<W: Wait>(&self, rt: &W) {
-        let mut world = self.world.write(rt);
+        let mut world = self.write_world(rt);
         let mut lobby = self.lobby.lock(rt);
         let _ = world.take_in(rt, &mut lobby);
     }
 
     /// Whether answers lie in the lobby, of a hall that is not closed.
     pub(crate) fn holds_answers<W: Wait>(&self, rt: &W) -> bool {
-        match self.world.read(rt).untaken(rt, &self.lobby) {
+        match self.read_world(rt).untaken(rt, &self.lobby) {
             Ok(count) => count > 0,
             Err(_) => false,
         }
@@ -342,7 +350,7 @@ impl<L: HallName, R: Wait + Drop, A: Allocator + Copy> Hall<L, R, A> {
             (λ closed. IsClosed L.opening closed.records closed.seats seats.entry.items) }
         ensures back { IfErr result (λ e. e.1.items ≡ seats.entry.items) }
     {
-        self.world.write(rt).close(rt, &self.lobby, seats)
+        self.write_world(rt).close(rt, &self.lobby, seats)
     }
 
     /// Closes the hall as `close` does, and returns with its account the state that it has come to:
@@ -363,7 +371,7 @@ impl<L: HallName, R: Wait + Drop, A: Allocator + Copy> Hall<L, R, A> {
         ensures edition { IfOk result (λ left. 0 < left.base.decider.edition) }
         ensures back { IfErr result (λ e. e.1.items ≡ seats.entry.items) }
     {
-        self.world.write(rt).leave(rt, &self.lobby, seats)
+        self.write_world(rt).leave(rt, &self.lobby, seats)
     }
 
     /// Ends the hall, and returns the state that it has come to: what another hall can begin with.
@@ -375,6 +383,8 @@ impl<L: HallName, R: Wait + Drop, A: Allocator + Copy> Hall<L, R, A> {
         ensures edition { IfOk result (λ base. 0 < base.decider.edition) }
     {
         let Hall {
+            turn: _turn,
+            wanted: _,
             world,
             lobby: _lobby,
             waiting: _waiting,

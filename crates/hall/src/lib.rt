@@ -5,6 +5,7 @@
 mod checks;
 mod closing;
 mod committing;
+mod entering;
 mod faults;
 mod governing;
 mod guarded;

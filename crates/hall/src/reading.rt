@@ -17,14 +17,14 @@ impl<L: HallName, R: Wait + Drop, A: Allocator + Copy> Hall<L, R, A> {
     pub fn record_count<W: Wait>(&self, rt: &W) -> u64
         ensures { IsCounted L.opening result }
     {
-        self.world.read(rt).record_count(rt, &self.lobby)
+        self.read_world(rt).record_count(rt, &self.lobby)
     }
 
     /// How many seats were given.
     pub fn seat_count<W: Wait>(&self, rt: &W) -> usize
         ensures { AreGiven L.opening result }
     {
-        let world = self.world.read(rt);
+        let world = self.read_world(rt);
         world.sound();
         world.seat_count()
     }
@@ -34,7 +34,7 @@ impl<L: HallName, R: Wait + Drop, A: Allocator + Copy> Hall<L, R, A> {
     pub fn last_change<W: Wait>(&self, rt: &W) -> u64
         ensures { IsChangedLast L.opening result }
     {
-        let world = self.world.read(rt);
+        let world = self.read_world(rt);
         world.sound();
         world.last_change()
     }
@@ -59,7 +59,7 @@ impl<L: HallName, R: Wait + Drop, A: Allocator + Copy> Hall<L, R, A> {
         if self.holds_answers(rt) {
             self.take_in(rt);
         }
-        let guard = self.world.read(rt);
+        let guard = self.read_world(rt);
         let world = &*guard;
         world.sound();
         world.copy_from(place, into)

@@ -77,7 +77,7 @@ fn searched_by_steps<L: HallName, R: Wait + Drop, A: Allocator + Copy, W: Wait, 
     let mut searching = Searching::New;
     let mut tries = TRY_LIMIT;
     for _ in rt.forever() {
-        let mut world = hall.world.write(rt);
+        let mut world = hall.write_world(rt);
         let lobby = &hall.lobby;
         match world.search_on(rt, lobby, seat, subject, share, window, &mut searching, 1) {
             Ok(done) => {
@@ -122,8 +122,7 @@ fn searched<L: HallName, R: Wait + Drop, A: Allocator + Copy, W: Wait, P: Pause>
     }
     let lobby = &hall.lobby;
     let beside = hall
-        .world
-        .read(rt)
+        .read_world(rt)
         .search_beside(rt, lobby, seat, subject, share, window);
     match beside {
         Ok(done) => return Ok(done),
@@ -131,8 +130,7 @@ fn searched<L: HallName, R: Wait + Drop, A: Allocator + Copy, W: Wait, P: Pause>
         Err(Unfinished::More) => {}
     }
     let alone = hall
-        .world
-        .write(rt)
+        .write_world(rt)
         .search_whole(rt, lobby, seat, subject, share, window);
     match alone {
         Ok(done) => Ok(done),

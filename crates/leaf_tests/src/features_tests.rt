@@ -383,9 +383,9 @@ fn of_many<A: Allocator + Copy>(rt: &impl Abort, alloc: A, count: u64) -> Store<
     store
 }
 
-/// How many features a store has, and how many of its lists grow when one is added: both the first
-/// time, then that of the features, and that of the blocks of ids.
-const GROWTHS: [(u64, u64); 4] = [(0, 2), (4, 1), (512, 1), (769, 1)];
+/// How many features a store has, and how many of its lists grow when one is added: all three the
+/// first time, then that of the features, and those of the blocks of ids and of their ends.
+const GROWTHS: [(u64, u64); 4] = [(0, 3), (4, 1), (512, 1), (769, 2)];
 
 /// Adds a feature while an allocation is refused, and checks that nothing has changed; answers
 /// whether one was refused.
@@ -414,7 +414,7 @@ fn is_refused<A: Allocator + Copy>(
 fn each_allocation_refused(rt: HostRuntime) -> Result<(), Fail> {
     let memory = Refusing::new(rt.alloc(), 0);
     for (count, growths) in GROWTHS {
-        for at in 1..4 {
+        for at in 1..5 {
             let refused = is_refused(&rt, &memory, count, at);
             assert!(rt; refused == (at <= growths), "{count}: {at}");
         }
