@@ -6,8 +6,8 @@ use Rattle.std.proofs.lemmas.List.Concat.{flat_map-append, get_or-flat_map}
 use Rattle.std.proofs.lemmas.List.Edits.{get_or-insert_above, get_or-insert_at, get_or-insert_below, get_or-remove_above, get_or-remove_below, insert-append_left, insert-append_right, length-insert, length-remove, remove-append_left, remove-append_right}
 use Rattle.std.proofs.lemmas.Bool.{cases_lt, cases_eq}
 use Rattle.arrayvec.specs.ArrayVec.{ArrayVec}
-use Rattle.feature_store.specs.declared.entries.Entry.{Entry}
-use Rattle.feature_store.specs.declared.entries.Position.{Position}
+use Rattle.feature_store.specs.declared.blocks.Entry.{Entry}
+use Rattle.feature_store.specs.declared.blocks.Position.{Position}
 use Rattle.feature_store.specs.Places.{AreRising, IsAt, IsGapFor}
 use Rattle.feature_store.specs.Blocks.{AreFilled, AreFilledBut, IsWithin, block_at, entries_of, entry_at, flat_index, halved, ids_in, joined, last_of, no_entry, with_entry, with_place, without_entry}
 use Rattle.feature_store.proofs.PlaceLemmas.{rising_at}

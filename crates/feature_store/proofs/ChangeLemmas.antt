@@ -4,7 +4,7 @@ use Rattle.features.specs.declared.rows.Feature.{Feature}
 use Rattle.features.specs.declared.rows.Change.{Change}
 use Rattle.features.specs.declared.rows.Change.TheVariants.{Add, Reshape, Delete}
 use Rattle.features.specs.Changes.{change_id, after_change, after, IsUnnamed, CanChange, CanApply, additions, deletions}
-use Rattle.features.specs.Rows.{feature_with, without}
+use Rattle.features.specs.Rows.{feature_with}
 use Rattle.feature_store.specs.declared.tables.Table.{Table}
 use Rattle.feature_store.specs.Tables.{HasRoom}
 use Rattle.memory.specs.declared.no_memory.NoMemory.{NoMemory}

@@ -4,8 +4,8 @@ use Rattle.std.specs.List.{insert, remove}
 use Rattle.std.proofs.lemmas.List.{get_or-map, length-map, map-set, set-get_or}
 use Rattle.arrayvec.specs.ArrayVec.{ArrayVec}
 use Rattle.plane.specs.declared.point.Point.{Point}
-use Rattle.feature_store.specs.declared.entries.Entry.{Entry}
-use Rattle.feature_store.specs.declared.entries.Position.{Position}
+use Rattle.feature_store.specs.declared.blocks.Entry.{Entry}
+use Rattle.feature_store.specs.declared.blocks.Position.{Position}
 use Rattle.features.specs.declared.rows.Feature.{Feature}
 use Rattle.feature_store.specs.Places.{AreRising, IsAt}
 use Rattle.feature_store.specs.Blocks.{HasPlace, IsInserted, IsPresent, IsRemoved, block_at, entries_of, entry_at, flat_index, ids_in, no_entry, places_in, with_place, without_entry}

@@ -4,7 +4,7 @@ use Rattle.std.specs.List.{flat_map, remove}
 use Rattle.std.proofs.lemmas.List.{length-append, length-drop, length-set, length-take-le}
 use Rattle.std.proofs.lemmas.List.Edits.{length-remove}
 use Rattle.arrayvec.specs.ArrayVec.{ArrayVec}
-use Rattle.feature_store.specs.declared.entries.Entry.{Entry}
+use Rattle.feature_store.specs.declared.blocks.Entry.{Entry}
 use Rattle.feature_store.specs.Blocks.{above_half, block_at, entries_of, excess_in, fill_in, halved, joined, room_in, spare_in}
 use Rattle.feature_store.proofs.BlockLemmas.{flat_around, flat_set, flat_removed, flat_halved, flat_joined, flat_two, length_halved}
 

@@ -4,7 +4,7 @@ use Rattle.std.specs.Prelude.{slice_get}
 use Rattle.std.specs.List.{All}
 use Rattle.std.proofs.lemmas.List.{drop_more, length-append, length-map, map-append, get_or-append-add, get_or-map, get_or_append_left, get_or_default}
 use Rattle.arrayvec.specs.ArrayVec.{ArrayVec}
-use Rattle.feature_store.specs.declared.entries.Entry.{Entry}
+use Rattle.feature_store.specs.declared.blocks.Entry.{Entry}
 use Rattle.features.specs.declared.rows.Feature.{Feature}
 use Rattle.feature_store.specs.Blocks.{entries_of, entry_at, no_entry, places_in}
 use Rattle.feature_store.specs.Tables.{blank, feature_at, rows_at}

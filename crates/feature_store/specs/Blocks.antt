@@ -1,9 +1,9 @@
 -- How a store keeps the entries of its features: by rising id, in blocks.
 use Rattle.std.specs.Prelude.{◌≡◌, ◌≢◌, ℕ, ◌+◌, ◌-◌, ◌*◌, ◌<◌, ◌≤◌, max, List, [], ◌++◌, length, map, take, drop, flat_map, insert, remove, slice_index_or, slice_set}
 use Rattle.arrayvec.specs.ArrayVec.{ArrayVec}
-use Rattle.feature_store.specs.declared.entries.Entry.{Entry}
-use Rattle.feature_store.specs.declared.entries.Position.{Position}
-use Rattle.feature_store.specs.declared.entries.TheConstants.{HALF}
+use Rattle.feature_store.specs.declared.blocks.Entry.{Entry}
+use Rattle.feature_store.specs.declared.blocks.Position.{Position}
+use Rattle.feature_store.specs.declared.blocks.TheConstants.{HALF}
 use Rattle.feature_store.specs.Places.{IsAt, IsGapFor}
 
 abbrev pub ids_in : List Entry → List ℕ

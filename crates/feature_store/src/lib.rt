@@ -1,6 +1,7 @@
 //! The store that keeps map features by id, and the meter of what is read of it.
 #![tactic(auto)]
 
+mod blocks;
 mod entries;
 mod lookups;
 mod meters;

@@ -4,7 +4,8 @@ ghost use Rattle.std.specs.Prelude.{◌≡◌, ◌+◌, ◌≤◌, vec_len, ℕ,
 ghost use Rattle.features.specs.Rows.{feature_with, with_row, with_shape, without};
 ghost use Rattle.feature_store.specs.Tables.{HasRoom, IsSound, rows_of};
 
-use crate::entries::{Entries, Entry};
+use crate::blocks::Entry;
+use crate::entries::Entries;
 use crate::rows::Row;
 use features::Feature;
 use kept_shapes::KeptShape;

@@ -14,9 +14,14 @@ unquoted tag =
     && ends_with nat_eq tag (codes "\"")
     then Some (drop 1 (take (length tag - 1) tag)) else None
 
+-- the number that a text is, written as this server writes one: without a zero in front (a strong
+-- comparison compares the characters, 8.8.3.2; versions begin with 1)
+abbrev pub plain_number : List ℕ → Option ℕ
+plain_number text = if starts_with nat_eq text (codes "0") then None else number_of text
+
 -- the version whose entity tag this is: a number in quotation marks
 abbrev pub tagged : List ℕ → Option ℕ
-tagged tag = option_and_then number_of (unquoted tag)
+tagged tag = option_and_then plain_number (unquoted tag)
 
 -- the version that a field names; none where it is not there, or is content with any
 unfoldable pub version_in : List ℕ → Result ℕ ChangeFault

@@ -1,7 +1,7 @@
 //! The version that a request means to change (RFC 9110, 13.1.1).
 
 ghost use Rattle.std.specs.Prelude.{◌≡◌, option_map};
-ghost use Rattle.map_changes.specs.Tags.{tagged, unquoted, version_in};
+ghost use Rattle.map_changes.specs.Tags.{plain_number, tagged, unquoted, version_in};
 
 use crate::faults::ChangeFault;
 use line_words::read_number;
@@ -17,11 +17,22 @@ fn unquoted(tag: &[u8]) -> Option<&[u8]>
     }
 }
 
+/// The number that a text is, without a zero in front.
+fn plain_number(text: &[u8]) -> Option<u64>
+    ensures { result ≡ plain_number text.now }
+{
+    if text.starts_with(b"0") {
+        None
+    } else {
+        read_number(text)
+    }
+}
+
 /// The version whose entity tag this is.
 fn tagged(tag: &[u8]) -> Option<u64>
     ensures { result ≡ tagged tag.now }
 {
-    read_number(unquoted(tag)?)
+    plain_number(unquoted(tag)?)
 }
 
 /// The version that a field `if-match` names.

@@ -27,6 +27,7 @@ status_of_tree _ = Internal
 
 abbrev pub status_of_fault : WorldFault → Status
 status_of_fault (world.Tree fault) = status_of_tree fault
+status_of_fault world.TooMany = Unavailable
 status_of_fault world.Spent = Unavailable
 status_of_fault world.TrailFull = Unavailable
 status_of_fault (world.Memory refused) = Unavailable
@@ -51,6 +52,7 @@ retry_of_tree _ = None
 
 abbrev pub retry_of_fault : WorldFault → Option ℕ
 retry_of_fault (world.Tree fault) = retry_of_tree fault
+retry_of_fault world.TooMany = Some 1
 retry_of_fault world.TrailFull = Some 60
 retry_of_fault (world.Memory refused) = Some 1
 retry_of_fault _ = None

@@ -61,6 +61,7 @@ fn status_of_fault(fault: &WorldFault) -> Status
 {
     match fault {
         WorldFault::Tree(fault) => status_of_tree(fault),
+        WorldFault::TooMany => Status::Unavailable,
         WorldFault::Spent => Status::Unavailable,
         WorldFault::TrailFull => Status::Unavailable,
         WorldFault::Memory(_) => Status::Unavailable,
@@ -101,6 +102,7 @@ fn retry_of_fault(fault: &WorldFault) -> Option<u64>
 {
     match fault {
         WorldFault::Tree(fault) => retry_of_tree(fault),
+        WorldFault::TooMany => Some(1),
         WorldFault::TrailFull => Some(60),
         WorldFault::Memory(_) => Some(1),
         _ => None,

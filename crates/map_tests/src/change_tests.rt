@@ -14,7 +14,7 @@ const MAST: &str =
 
 /// Methods, paths, queries, the fields `if-match` and `content-type`, and the code of the fault of
 /// such a request with a mast, or `ok`.
-const ASKED: [(Method, &str, &str, &str, &str, &str); 39] = [
+const ASKED: [(Method, &str, &str, &str, &str, &str); 40] = [
     (Method::Post, "/nowhere", "x=1", "", "", "U1"),
     (Method::Put, "/collections/road/items/7", "", "", "", "U1"),
     (Method::Post, "/", "x=1", "", "", "method"),
@@ -145,6 +145,14 @@ const ASKED: [(Method, &str, &str, &str, &str, &str); 39] = [
         "/collections/features/items/7",
         "",
         "\"3",
+        "x",
+        "stale",
+    ),
+    (
+        Method::Put,
+        "/collections/features/items/7",
+        "",
+        "\"03\"",
         "x",
         "stale",
     ),
