@@ -112,18 +112,18 @@ page_answers words held closed written output after shell (Ok (answers.Transfer 
 page_answers words held closed written output after shell (Ok (answers.Mistaken mistake)) asked h = absurd h
 
 -- the words ask for an export or an import, and this is it, or its configuration is at fault
-pub transfer_answers : {O : Type 0} (words : List (List ℕ)) (held : List ℕ → Option (List ℕ)) (closed : List ℕ → Type 0) (written : O → Option (List ℕ)) (output : O) (name : List ℕ) (given : TransferWords) (config : Option (List ℕ)) (result : Result Answer ProgramFault)
-    → AskFor name words → AskForTransfer words given → given_by words (codes "config") ≡ config → TransferAnswered held closed given config result → IsAnswer words held closed written output output result
-transfer_answers words held closed written output name given config (Ok (answers.Transfer wanted)) named asked is h =
+pub transfer_answers : {O : Type 0} (words : List (List ℕ)) (held : List ℕ → Option (List ℕ)) (closed : List ℕ → Type 0) (written : O → Option (List ℕ)) (output : O) (given : TransferWords) (config : Option (List ℕ)) (result : Result Answer ProgramFault)
+    → AskForTransfer words given → given_by words (codes "config") ≡ config → TransferAnswered held closed given config result → IsAnswer words held closed written output output result
+transfer_answers words held closed written output given config (Ok (answers.Transfer wanted)) asked is h =
     ((subst (AskForTransfer words) (sym h.0) asked, subst (λ c. IsGridIn held c wanted.grid) (sym is) h.1), refl)
-transfer_answers words held closed written output name given config (Err fault) named asked is h = IsFault.no_grid name fault named (subst (λ c. IsOfConfig held closed c fault) (sym is) h) refl
-transfer_answers words held closed written output name given config (Ok (answers.Done flushed)) named asked is h = absurd h
-transfer_answers words held closed written output name given config (Ok (answers.Serve server)) named asked is h = absurd h
-transfer_answers words held closed written output name given config (Ok (answers.Connect path)) named asked is h = absurd h
-transfer_answers words held closed written output name given config (Ok (answers.Keep kept)) named asked is h = absurd h
-transfer_answers words held closed written output name given config (Ok (answers.Look look)) named asked is h = absurd h
-transfer_answers words held closed written output name given config (Ok (answers.Secret subject)) named asked is h = absurd h
-transfer_answers words held closed written output name given config (Ok (answers.Mistaken mistake)) named asked is h = absurd h
+transfer_answers words held closed written output given config (Err fault) asked is h = IsFault.no_grid given fault asked (subst (λ c. IsOfConfig held closed c fault) (sym is) h) refl
+transfer_answers words held closed written output given config (Ok (answers.Done flushed)) asked is h = absurd h
+transfer_answers words held closed written output given config (Ok (answers.Serve server)) asked is h = absurd h
+transfer_answers words held closed written output given config (Ok (answers.Connect path)) asked is h = absurd h
+transfer_answers words held closed written output given config (Ok (answers.Keep kept)) asked is h = absurd h
+transfer_answers words held closed written output given config (Ok (answers.Look look)) asked is h = absurd h
+transfer_answers words held closed written output given config (Ok (answers.Secret subject)) asked is h = absurd h
+transfer_answers words held closed written output given config (Ok (answers.Mistaken mistake)) asked is h = absurd h
 
 -- the result for the words, by cases
 module _ {O : Type 0} (words : List (List ℕ)) (held : List ℕ → Option (List ℕ)) (closed : List ℕ → Type 0) (written : O → Option (List ℕ)) (output after : O) (result : Result Answer ProgramFault) (answer : Answer) where

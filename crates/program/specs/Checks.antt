@@ -1,5 +1,5 @@
 -- What is written where a configuration is looked at, a script drawn, and a page printed.
-use Rattle.std.specs.Prelude.{◌≡◌, ◌++◌, ℕ, List, Option, None, Some, IfSome, Result, Ok, Err, codes}
+use Rattle.std.specs.Prelude.{◌≡◌, ◌++◌, ◌⊎◌, ℕ, List, Option, None, Some, IfSome, Result, Ok, Err, codes}
 use Rattle.std.specs.Io.KnownBytes.{Appends}
 use Rattle.byte_streams.specs.declared.writing.Flushed.{Flushed}
 use Rattle.command_line.specs.CommandLine.{AskFor, given_by, shell_at}
@@ -77,7 +77,7 @@ IsDrawn held name before after = (script_then : Option (List ℕ)) × (replies_t
 abbrev pub DrawBroke : (List ℕ → Option (List ℕ)) → (List ℕ → Type 0) → List ℕ → Option (List ℕ)
     → Option (List ℕ) → ProgramFault → Type 0
 DrawBroke held closed name before after (faults.CannotRead told (NotOpened failed)) =
-    closed told.now × (after ≡ before)
+    ((told.now ≡ name) ⊎ (told.now ≡ codes "-")) × closed told.now × (after ≡ before)
 DrawBroke held closed name before after (faults.CannotWrite failed) = Unit {0}
 DrawBroke held closed name before after (faults.Draw fault) =
     (script_then : Option (List ℕ)) × (replies_then : Option (List ℕ))

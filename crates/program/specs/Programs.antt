@@ -56,6 +56,13 @@ pub data IsDone (words : List (List ℕ)) (held : List ℕ
   -- they ask for help
   helps : AskForHelp words → IsDone words held before after
 
+-- these words ask for this export, or for this import
+abbrev pub AskForTransfer : List (List ℕ) → TransferWords → Type 0
+AskForTransfer words (transfers.Export given) =
+    AskFor (codes "export") words × HasExport (given_by words) given
+AskForTransfer words (transfers.Import given) =
+    AskFor (codes "import") words × HasImport (given_by words) given
+
 -- Why a run of the program with these words ended with a fault. `closed` holds for each name whose
 -- file was not opened. Running out of memory for the command line can happen with any words.
 pub data IsFault (words : List (List ℕ)) (held : List ℕ → Option (List ℕ)) (closed : List ℕ
@@ -79,7 +86,7 @@ pub data IsFault (words : List (List ℕ)) (held : List ℕ → Option (List ℕ
       → given_by words (codes "SCRIPT") ≡ Some name
       → DrawBroke held closed name before after fault → IsFault words held closed before after fault
   -- they ask for an export or an import, but there is no such configuration
-  no_grid : (name : List ℕ) (fault : ProgramFault) → AskFor name words
+  no_grid : (given : TransferWords) (fault : ProgramFault) → AskForTransfer words given
       → IsOfConfig held closed (given_by words (codes "config")) fault → after ≡ before
       → IsFault words held closed before after fault
   -- they ask for a page, but it could not be printed
@@ -134,13 +141,6 @@ abbrev pub IsGridIn : (List ℕ → Option (List ℕ)) → Option (List ℕ) →
 IsGridIn held None grid = grid ≡ None
 IsGridIn held (Some name) grid = (config : ConfigData) × IsConfigOf held (Some name) config
     × (option_map grid_data grid ≡ config.grid)
-
--- these words ask for this export, or for this import
-abbrev pub AskForTransfer : List (List ℕ) → TransferWords → Type 0
-AskForTransfer words (transfers.Export given) =
-    AskFor (codes "export") words × HasExport (given_by words) given
-AskForTransfer words (transfers.Import given) =
-    AskFor (codes "import") words × HasImport (given_by words) given
 
 -- these words ask for this export or import, with the grid of the configuration that they name
 abbrev pub WantTransfer : List (List ℕ) → (List ℕ → Option (List ℕ)) → WantedTransfer → Type 0

@@ -55,14 +55,14 @@ returns-in-Ok-Export g c =
     let words : List (List ℕ) = map (λ word. string_bytes word) c.args.words.now in
     let asked = subst (λ r. IfOk r (IsAsked words)) c.in-Ok-Export.is c.read_words.ensures in
     let given = subst (IsAsked words) c.in-Ok-Export.field-0-is asked in
-    transfer_answers words _ _ g.O.Write.contents c.args.output.now (codes "export") (transfers.Export c.in-Ok-Export.given) _ c.answer_transfer.result given.0 given given.1.config c.answer_transfer.ensures
+    transfer_answers words _ _ g.O.Write.contents c.args.output.now (transfers.Export c.in-Ok-Export.given) _ c.answer_transfer.result given given.1.config c.answer_transfer.ensures
 
 pub returns-in-Ok-Import : goal.returns-in-Ok-Import
 returns-in-Ok-Import g c =
     let words : List (List ℕ) = map (λ word. string_bytes word) c.args.words.now in
     let asked = subst (λ r. IfOk r (IsAsked words)) c.in-Ok-Import.is c.read_words.ensures in
     let given = subst (IsAsked words) c.in-Ok-Import.field-0-is asked in
-    transfer_answers words _ _ g.O.Write.contents c.args.output.now (codes "import") (transfers.Import c.in-Ok-Import.given) _ c.answer_transfer-in-Ok-Import.result given.0 given given.1.config c.answer_transfer-in-Ok-Import.ensures
+    transfer_answers words _ _ g.O.Write.contents c.args.output.now (transfers.Import c.in-Ok-Import.given) _ c.answer_transfer-in-Ok-Import.result given given.1.config c.answer_transfer-in-Ok-Import.ensures
 
 pub returns-in-Ok-Man : goal.returns-in-Ok-Man
 returns-in-Ok-Man g c =
