@@ -8,6 +8,11 @@ pause (additions and deletions in turn); and 1, 4 and 16 clients each of which m
 second (a commit is one, with its ADD), the 50th and 99th percentile of a search in microseconds, and the processor's share of the server.
 Then a commit of one feature every 10 ms, alone and beside 4 and 16 clients that search without pause: the 50th and the 99th percentile of the
 commit, and the longest, in milliseconds. A last row: 20,000 RESHAPEs of one client, and how much the server's memory has grown by them.
+
+    bench/serve_bench/mixed_sockets.py --turns 15 [PROGRAM]
+
+Only one client that searches, alone and beside a commit of one feature every 100 ms, in turn so often: the middle of each, by how much the
+second is slower, and the processor's time of the commits alone.
 """
 import argparse
 import math
@@ -126,6 +131,7 @@ def main():
     parser = argparse.ArgumentParser(description=__doc__, formatter_class=argparse.RawDescriptionHelpFormatter)
     parser.add_argument("--features", type=int, default=70_000)
     parser.add_argument("--seconds", type=float, default=3)
+    parser.add_argument("--turns", type=int, default=0)
     parser.add_argument("program", nargs="?", default=os.path.join(TOP, "crates", "landmap", "out", "landmap"))
     arguments = parser.parse_args()
     WORK = tempfile.mkdtemp()
@@ -135,15 +141,46 @@ def main():
     server = subprocess.Popen([arguments.program, "serve", "--socket", path, "--connections", "1024", "--workers", "20",
                                "--features", "1000000"], stdout=subprocess.PIPE, text=True)
     try:
-        measure(path, server, arguments.features, arguments.seconds)
+        assert server.stdout.readline() == f"listening {path}\n"
+        load(path, arguments.features)
+        time.sleep(1)
+        if arguments.turns:
+            compare(path, server, arguments.features, arguments.seconds, arguments.turns)
+        else:
+            measure(path, server, arguments.features, arguments.seconds)
     finally:
         server.kill()
 
 
+def compare(path, server, features, seconds, turns):
+    """Searches of one client alone, and beside a commit every 100 ms, in turn."""
+    file = written("searches", searches(features, 5000))
+    rates = {False: [], True: []}
+    for turn in range(2 * turns):
+        # Each is the first of a pair as often as the second.
+        beside = turn % 4 in (1, 2)
+        stop = threading.Event()
+        other = threading.Thread(target=committing, args=(path, 0.1, 20_000_000 + turn, stop))
+        if beside:
+            other.start()
+        rates[beside].append(float(asker(path, seconds, file).communicate()[0].split()[0]))
+        if beside:
+            stop.set()
+            other.join()
+    alone, beside = (sorted(rates[key])[turns // 2] for key in (False, True))
+    stop = threading.Event()
+    other = threading.Thread(target=committing, args=(path, 0.1, 30_000_000, stop))
+    other.start()
+    before = processor(server)
+    time.sleep(5)
+    share = (processor(server) - before) / 5
+    stop.set()
+    other.join()
+    print(f"alone {alone:.0f} searches a second ({min(rates[False]):.0f} to {max(rates[False]):.0f}), beside a commit every 100 ms {beside:.0f} "
+          f"({min(rates[True]):.0f} to {max(rates[True]):.0f}): {100 * (1 - beside / alone):.1f} % fewer; {100 * share:.1f} % of a processor by those commits alone")
+
+
 def measure(path, server, features, seconds):
-    assert server.stdout.readline() == f"listening {path}\n"
-    load(path, features)
-    time.sleep(1)
     alone = written("searches", searches(features, 5000))
     told("one client searches alone", server, seconds, [asker(path, seconds, alone)], processor(server))
     for name, pause, first in (("beside a commit every 100 ms", 0.1, 20_000_000), ("beside commits without pause", 0, 30_000_000)):
