@@ -1,5 +1,5 @@
 -- What the words of a command line ask for.
-use Rattle.std.specs.Prelude.{◌≡◌, ◌≤◌, ◌⊎◌, ℕ, true, false, List, [], IfSome, Option, Some, codes, None, option_and_then, option_map, unwrap_or}
+use Rattle.std.specs.Prelude.{◌≡◌, ◌≤◌, ◌⊎◌, ◌||◌, ℕ, true, false, is_some, List, [], IfSome, Option, Some, codes, None, option_and_then, option_map, unwrap_or}
 use Rattle.clap.specs.Words.{IsAmong, Row, Text, kind_of, subcommand_of, subcommand_rows_of}
 use Rattle.command_line.specs.CommandLine.{AreTurnedDown, AskFor, AskForHelp, command_line, action_at, flag_at, format_at, given_by, is_name_at, number_at, refusals, shell_at, shell_named, waits_at}
 use Rattle.command_line.specs.Http.{IsHttpAt, IsHttpFault}
@@ -100,9 +100,13 @@ IsAskedExport given (Export words) = HasExport given words
 IsAskedExport given (Mistake text) = format_at given (codes "format") ≡ None
 IsAskedExport given _ = ⊥
 
+-- an import goes to a server or into a script
+abbrev pub GoesOn : ImportWords → Type 0
+GoesOn words = (is_some words.socket || words.script) ≡ true
+
 -- an import, or nothing, since it would go neither to a server nor into a script
 abbrev pub IsAskedImport : (Text → Option Text) → Asked → Type 0
-IsAskedImport given (Import words) = HasImport given words
+IsAskedImport given (Import words) = HasImport given words × GoesOn words
 IsAskedImport given (Mistake text) =
     (given (codes "socket") ≡ None) × (flag_at given (codes "script") ≡ false)
 IsAskedImport given _ = ⊥
@@ -147,7 +151,8 @@ IsAsked words (Check config) =
 IsAsked words (Draw script) = AskFor (codes "draw") words
     × (given_by words (codes "SCRIPT") ≡ Some script.now)
 IsAsked words (Export given) = AskFor (codes "export") words × HasExport (given_by words) given
-IsAsked words (Import given) = AskFor (codes "import") words × HasImport (given_by words) given
+IsAsked words (Import given) =
+    AskFor (codes "import") words × HasImport (given_by words) given × GoesOn given
 IsAsked words (Store given) = AskFor (codes "store") words × HasStore (given_by words) given
 IsAsked words (Secret name) =
     AskFor (codes "secret") words × (given_by words (codes "NAME") ≡ Some name.now)

@@ -1,6 +1,6 @@
 -- What a configuration may say of HTTP.
 use Rattle.std.specs.Prelude.{ℕ, ◌==◌, ◌&&◌, ◌||◌, not, Bool, true, false, List, codes, drop, length, take, nat_eq, nat_le, if◌then◌else◌, Option, Some, None, option_and_then, option_map}
-use Rattle.std.specs.List.{ends_with, list_all}
+use Rattle.std.specs.List.{ends_with, starts_with, list_all}
 use Rattle.std.specs.Option.{option_map_or}
 use Rattle.std.specs.Result.{result_ok}
 use Rattle.std.specs.Cmp.Lexicographic.{pointwise}
@@ -40,10 +40,12 @@ is_host_byte b =
     nat_le 33 b && nat_le b 126
     && not (b == 34 || b == 35 || b == 60 || b == 62 || b == 63 || b == 92)
 
--- 1 to `PUBLIC_LIMIT` such bytes, the last of which is no slash
+-- 1 to `PUBLIC_LIMIT` such bytes, the first of which is no slash and no colon, since no host is
+-- empty (RFC 9110, 4.2.1), and the last no slash
 abbrev pub is_host : List ℕ → Bool
 is_host text =
     nat_le 1 (length text) && nat_le (length text) PUBLIC_LIMIT && list_all is_host_byte text
+    && not (starts_with nat_eq text (codes "/")) && not (starts_with nat_eq text (codes ":"))
     && not (ends_with nat_eq text (codes "/"))
 
 -- what stands behind a scheme in a text that begins with it

@@ -82,7 +82,12 @@ fn are_host_bytes(text: &[u8]) -> bool
 fn is_host(text: &[u8]) -> bool
     ensures { result ≡ is_host text.now }
 {
-    !text.is_empty() && text.len() <= PUBLIC_LIMIT && are_host_bytes(text) && !text.ends_with(b"/")
+    !text.is_empty()
+        && text.len() <= PUBLIC_LIMIT
+        && are_host_bytes(text)
+        && !text.starts_with(b"/")
+        && !text.starts_with(b":")
+        && !text.ends_with(b"/")
 }
 
 /// What stands behind a scheme in a text that begins with it.

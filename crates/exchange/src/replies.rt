@@ -59,7 +59,7 @@ fn words_of(row: &[u8]) -> Option<Feature> {
 }
 
 /// The feature of a row of a reply, given without its line feed: the row is just the one that the
-/// feature has. `None` for every other text.
+/// feature has. `None` for every other text: that it never comes for such a row is tested.
 pub fn feature_of_row<A: Allocator>(alloc: A, row: &[u8]) -> Result<Option<Feature>, NoMemory>
     ensures { IfOk result (λ found. IfSome found (λ feature. row.now ≡ reply_row feature)) }
 {

@@ -283,7 +283,7 @@ impl<A: Allocator + Copy> Source<A> {
                 return if quoted {
                     Err(SourceFault::Cut)
                 } else {
-                    Ok(!text.is_empty())
+                    Ok(!without_end_space(text.as_slice()).is_empty())
                 };
             };
             if byte == b'\n' && !quoted {

@@ -100,6 +100,7 @@ fn tables_have_their_records(rt: HostRuntime) -> Result<(), Fail> {
             "WKT,name|\"a\",\"b\n\"\"c\"\"\"|d|",
             "whole",
         ),
+        ("WKT,name\na,b\n \n \r", "WKT,name|a,b|", "whole"),
         ("WKT\n\"POINT (1", "WKT|", "F2"),
     ];
     for (text, rows, end) in cases {

@@ -1,7 +1,7 @@
 //! What follows once a list is answered.
 
-ghost use Rattle.std.specs.Prelude.{◌≡◌, ℕ, ◌+◌, IfSome, count_by, take};
-ghost use Rattle.importing.specs.Steps.{is_staged, IsStagedAs, Follows, PointsTo};
+ghost use Rattle.std.specs.Prelude.{◌≡◌, ℕ, ◌+◌, IfNone, IfSome, count_by, take};
+ghost use Rattle.importing.specs.Steps.{HasNo, is_staged, IsStagedAs, Follows, PointsTo};
 
 use crate::replies::Reply;
 
@@ -30,7 +30,8 @@ pub fn is_staged(reply: Reply) -> bool
 
 /// The index of the addition that was staged as this one of all, counted from 1.
 fn staged_index(adds: &[Reply], change: u64) -> Option<usize>
-    ensures { IfSome result (λ index. IsStagedAs adds.now index change) }
+    ensures found { IfSome result (λ index. IsStagedAs adds.now index change) }
+    ensures missing { IfNone result (HasNo adds.now change) }
 {
     let mut count: u64 = 0;
     for (index, reply) in adds.iter().enumerate() {

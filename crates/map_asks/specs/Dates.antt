@@ -5,9 +5,13 @@ use Rattle.std.specs.List.{prefix_len}
 use Rattle.std.specs.Str.{bytes_eq}
 use Rattle.map_asks.specs.Cuts.{front, back}
 
--- a byte of a form: each digit is `0`
+-- a byte of a form: each digit is `0`, and a small `t` or `z` is a capital one (RFC 3339, 5.6)
 abbrev pub figure : ℕ → ℕ
-figure b = if is_ascii_digit b then 48 else b
+figure b =
+    if is_ascii_digit b then 48
+    else if b == 116 then 84
+    else if b == 122 then 90
+    else b
 
 -- the text is the form, but for its digits
 abbrev pub has_form : List ℕ → List ℕ → Bool
@@ -29,7 +33,7 @@ behind_fraction [] = []
 behind_fraction (b ∷ bs) = if b == 46 then behind_point (b ∷ bs) bs else b ∷ bs
 
 abbrev pub is_zone : List ℕ → Bool
-is_zone text = bytes_eq text (codes "Z") || has_form (codes "+00:00") text || has_form (codes "-00:00") text
+is_zone text = has_form (codes "Z") text || has_form (codes "+00:00") text || has_form (codes "-00:00") text
 
 -- a date, or a date with a time of day and a zone
 unfoldable pub is_moment : List ℕ → Bool

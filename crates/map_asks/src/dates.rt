@@ -7,11 +7,19 @@ ghost use Rattle.map_asks.specs.Dates.{figure, has_form, behind_fraction, is_zon
 
 use crate::cuts::cut;
 
-/// A byte of a form: each digit is `0`.
+/// A byte of a form: each digit is `0`, and a small `t` or `z` is a capital one.
 fn figure(byte: u8) -> u8
     ensures { result ≡ figure byte }
 {
-    if byte.is_ascii_digit() { b'0' } else { byte }
+    if byte.is_ascii_digit() {
+        b'0'
+    } else if byte == b't' {
+        b'T'
+    } else if byte == b'z' {
+        b'Z'
+    } else {
+        byte
+    }
 }
 
 /// Whether a text is a form, but for its digits.
@@ -54,11 +62,11 @@ fn behind_fraction(text: &[u8]) -> &[u8]
 fn is_zone(text: &[u8]) -> bool
     ensures { result ≡ is_zone text.now }
 {
-    text == b"Z".as_slice() || has_form(b"+00:00", text) || has_form(b"-00:00", text)
+    has_form(b"Z", text) || has_form(b"+00:00", text) || has_form(b"-00:00", text)
 }
 
 /// Whether a text has the form of a date, or of a date with a time of day and a zone (RFC 3339,
-/// 5.6, with capital letters).
+/// 5.6).
 #[tactic(auto, unfolding(crate::specs::Dates::is_moment))]
 fn is_moment(text: &[u8]) -> bool
     ensures { result ≡ is_moment text.now }

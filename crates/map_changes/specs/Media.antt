@@ -5,9 +5,9 @@ use Rattle.std.specs.Str.{str_eq_ignore_ascii_case}
 use Rattle.map_changes.specs.declared.edits.Method.{Method}
 use Rattle.map_changes.specs.declared.edits.Method.TheVariants.{Post, Put, Patch, Delete}
 
--- a type ends before a semicolon or a space
+-- a type ends before a semicolon, a space or a tab (5.6.6)
 abbrev pub is_type_byte : ℕ → Bool
-is_type_byte b = not (b == 59) && not (b == 32)
+is_type_byte b = not (b == 59) && not (b == 32) && not (b == 9)
 
 -- the type at the front of a field, without its parameters
 abbrev pub media_type : List ℕ → List ℕ

@@ -10,7 +10,7 @@ use crate::edits::Method;
 fn is_type_byte(byte: u8) -> bool
     ensures { result ≡ is_type_byte byte }
 {
-    byte != b';' && byte != b' '
+    byte != b';' && byte != b' ' && byte != b'\t'
 }
 
 /// How many bytes the type at the front of a field `content-type` has.

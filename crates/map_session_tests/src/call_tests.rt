@@ -435,6 +435,7 @@ fn types_of_documents(rt: HostRuntime) {
         ("text/plain", Status::UnsupportedMedia),
         ("application/geo+json", Status::UnsupportedMedia),
         ("Application/JSON;charset=utf-8", Status::Success),
+        ("application/json\t; charset=utf-8", Status::Success),
     ];
     for (media, status) in wanted {
         let answer = answered(&rt, rt.alloc(), &mut solo, &mut pieces, media, &ASKED[16]);

@@ -6,7 +6,7 @@ use plane::{Point, Shape, corners};
 use std::process::Abort;
 
 /// Paths, queries, and the code of their fault, or `ok`.
-const ASKED: [(&str, &str, &str); 61] = [
+const ASKED: [(&str, &str, &str); 63] = [
     ("/", "", "ok"),
     ("/", "&&", "ok"),
     ("/", "f=json", "U2"),
@@ -70,6 +70,16 @@ const ASKED: [(&str, &str, &str); 61] = [
         "/collections/mast/items",
         "datetime=2026-11-28T05:00:00.25%2B01:00",
         "ok",
+    ),
+    (
+        "/collections/mast/items",
+        "datetime=2026-11-28t05:00:00z",
+        "ok",
+    ),
+    (
+        "/collections/mast/items",
+        "datetime=2026-11-28u05:00:00z",
+        "U4",
     ),
     ("/collections/mast/items", "datetime=2026-11-28", "ok"),
     ("/collections/mast/items", "datetime=2026-11-28/..", "ok"),

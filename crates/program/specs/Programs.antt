@@ -1,7 +1,7 @@
 -- What a run of the program writes and returns.
 use Rattle.std.specs.Prelude.{◌≡◌, ℕ, true, List, Option, None, Some, IfSome, Result, Ok, Err, codes, option_map}
 use Rattle.byte_streams.specs.Written.{Took}
-use Rattle.command_line.specs.Asking.{HasExport, HasImport, HasOptions, HasStore, IsUpTo}
+use Rattle.command_line.specs.Asking.{GoesOn, HasExport, HasImport, HasOptions, HasStore, IsUpTo}
 use Rattle.command_line.specs.CommandLine.{AreTurnedDown, AskFor, AskForHelp, given_by, is_name_at, number_at, waits_at}
 use Rattle.command_line.specs.Http.{IsHttpAt}
 use Rattle.command_line.specs.declared.options.TheConstants.{HTTP_WORKER_LIMIT}
@@ -61,7 +61,7 @@ abbrev pub AskForTransfer : List (List ℕ) → TransferWords → Type 0
 AskForTransfer words (transfers.Export given) =
     AskFor (codes "export") words × HasExport (given_by words) given
 AskForTransfer words (transfers.Import given) =
-    AskFor (codes "import") words × HasImport (given_by words) given
+    AskFor (codes "import") words × HasImport (given_by words) given × GoesOn given
 
 -- Why a run of the program with these words ended with a fault. `closed` holds for each name whose
 -- file was not opened. Running out of memory for the command line can happen with any words.

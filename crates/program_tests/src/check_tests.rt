@@ -118,7 +118,7 @@ fn said_of_http(rt: HostRuntime) -> Result<(), Fail> {
 }
 
 /// What is wrong of what is said of HTTP, with its place.
-const WRONG_OF_HTTP: [(&str, &str); 50] = [
+const WRONG_OF_HTTP: [(&str, &str); 52] = [
     (r#""anonymous":null"#, "/anonymous"),
     (r#""anonymous":"c""#, "/anonymous"),
     (r#""anonymous":"A""#, "/anonymous"),
@@ -133,6 +133,8 @@ const WRONG_OF_HTTP: [(&str, &str); 50] = [
     (r#""public":"ftp://maps.agency.example""#, "/public"),
     (r#""public":"HTTP://maps.agency.example""#, "/public"),
     (r#""public":"https://""#, "/public"),
+    (r#""public":"https:///land""#, "/public"),
+    (r#""public":"https://:443""#, "/public"),
     (r#""public":"https://x/""#, "/public"),
     (r#""public":"https://x?y""#, "/public"),
     (r#""public":"https://x#y""#, "/public"),

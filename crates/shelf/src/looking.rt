@@ -9,11 +9,12 @@ use crate::opening::{Opened, connect, has_tables, open_volume};
 use byte_streams::{WriteFailed, write_shown, write_whole};
 use features::Feature;
 use memory::NoMemory;
-use sqlite::{Connection, Error as SqlError, File as DiskFile, FileStore};
+use sqlite::{Connection, Error as SqlError};
+use sqlite_trees::store::{Alter, Store};
 use std::alloc::Global;
 use std::io::Write;
 use std::{fmt, fs};
-use volumes::{State, Volume};
+use volumes::{State, Tables, Volume};
 use wkt::shape_text;
 
 /// Why a store was not looked at to its end.
@@ -81,13 +82,13 @@ impl fmt::Display for VolumeAccount {
 }
 
 /// One number that a query answers.
-fn number_of(database: &mut Connection<FileStore<DiskFile>>, query: &str) -> Result<i64, SqlError> {
+fn number_of<S: Alter>(database: &mut Connection<S>, query: &str) -> Result<i64, SqlError> {
     database.query_row(query, &[])?.get(0)
 }
 
 /// What the tables of a volume have; all numbers are 0 where it has not begun.
-fn counted(
-    database: &mut Connection<FileStore<DiskFile>>,
+fn counted<S: Alter>(
+    database: &mut Connection<S>,
     number: u32,
     bytes: u64,
 ) -> Result<VolumeAccount, SqlError> {
@@ -148,24 +149,36 @@ struct ReadVolume {
     next: u64,
 }
 
-/// Reads a volume whole; `None` where it has not begun.
-fn read_volume(rt: &HostRuntime, path: &str) -> Result<Option<ReadVolume>, ShelfFault> {
-    let heap = rt.alloc();
-    let (store, tables, lives) = match open_volume(rt, path)? {
-        Opened::NotBegun => return Ok(None),
-        Opened::Begun(store, tables, lives) => (store, tables, lives),
-    };
-    let mut volume = match Volume::new(store, heap, tables, lives.first) {
+/// Reads the volume in these tables whole, whose first record has this number.
+fn read_tables<S: Store + Drop>(
+    heap: Global,
+    path: &str,
+    store: S,
+    tables: Tables,
+    first: u64,
+) -> Result<ReadVolume, ShelfFault> {
+    let mut volume = match Volume::new(store, heap, tables, first) {
         Ok(volume) => volume,
         Err((fault, _store)) => return Err(of_volume(heap, path, fault)),
     };
     match volume.restore(heap, heap) {
-        Ok(state) => Ok(Some(ReadVolume {
+        Ok(state) => Ok(ReadVolume {
             state,
-            first: lives.first,
+            first,
             next: volume.next(),
-        })),
+        }),
         Err(fault) => Err(of_volume(heap, path, fault)),
+    }
+}
+
+/// Reads a volume whole; `None` where it has not begun.
+fn read_volume(rt: &HostRuntime, path: &str) -> Result<Option<ReadVolume>, ShelfFault> {
+    match open_volume(rt, path)? {
+        Opened::NotBegun => Ok(None),
+        Opened::Begun(store, tables, lives) => {
+            let read = read_tables(rt.alloc(), path, store, tables, lives.first)?;
+            Ok(Some(read))
+        }
     }
 }
 
@@ -228,8 +241,8 @@ impl From<WriteFailed> for LinesFault {
 }
 
 /// Writes the lines of a volume's records.
-fn write_lines<W: Write>(
-    database: &mut Connection<FileStore<DiskFile>>,
+fn write_lines<S: Alter, W: Write>(
+    database: &mut Connection<S>,
     output: &mut W,
 ) -> Result<(), LinesFault> {
     let mut rows = database.query("SELECT line FROM record ORDER BY number", &[])?;

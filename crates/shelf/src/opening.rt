@@ -2,6 +2,7 @@
 
 use crate::faults::{Cause, ShelfFault, damaged, of_database, of_volume};
 use sqlite::{Connection, Error as SqlError, File as DiskFile, FileStore};
+use sqlite_trees::store::Alter;
 use std::alloc::Global;
 use volumes::{Tables, VolumeFault};
 
@@ -29,7 +30,7 @@ pub(crate) fn connect(rt: &HostRuntime, path: &str) -> Result<Connection<Disk>, 
 }
 
 /// The number of the tree of a table.
-fn tree_of(database: &Connection<Disk>, name: &[u8]) -> Option<u32> {
+fn tree_of<S: Alter>(database: &Connection<S>, name: &[u8]) -> Option<u32> {
     for table in database.schema().tables.as_slice() {
         if table.name.as_slice() == name {
             return Some(table.tree);
@@ -39,7 +40,7 @@ fn tree_of(database: &Connection<Disk>, name: &[u8]) -> Option<u32> {
 }
 
 /// The tables of a volume, if all of them are there.
-fn tables_of(database: &Connection<Disk>) -> Option<Tables> {
+fn tables_of<S: Alter>(database: &Connection<S>) -> Option<Tables> {
     Some(Tables {
         features: tree_of(database, b"feature")?,
         policy: tree_of(database, b"policy")?,
@@ -74,7 +75,7 @@ pub(crate) struct Lives {
 }
 
 /// The two numbers in the table `life`; `None` where it has no row.
-fn lives_in(database: &mut Connection<Disk>) -> Result<Option<(i64, i64)>, SqlError> {
+fn lives_in<S: Alter>(database: &mut Connection<S>) -> Result<Option<(i64, i64)>, SqlError> {
     let row = database.query_row(
         "SELECT count(*), coalesce(max(life), 0), coalesce(min(first), 0) FROM life",
         &[],
@@ -98,7 +99,7 @@ pub(crate) enum Opened {
 }
 
 /// Whether a database has any table.
-pub(crate) fn has_tables(database: &Connection<Disk>) -> bool {
+pub(crate) fn has_tables<S: Alter>(database: &Connection<S>) -> bool {
     !database.schema().tables.is_empty()
 }
 

@@ -14,6 +14,7 @@ use decision::Decider;
 use features::{Feature, Subjects};
 use keepers::Keeper;
 use memory::{GrowVec, NoMemory, another, text};
+use sqlite_trees::store::Store;
 use std::alloc::Global;
 use std::fs::File;
 use std::mem;
@@ -60,10 +61,10 @@ pub struct Shelf {
 
 /// The last volume of a folder that has begun.
 #[derive(Drop)]
-struct LastVolume {
+struct LastVolume<S: Store> {
     number: u32,
     path: String,
-    store: Disk,
+    store: S,
     tables: Tables,
     lives: Lives,
 }
@@ -82,7 +83,7 @@ fn remove_half_made(
 
 /// The last volume of a folder that has begun. The one behind it, which a start or a change of volumes
 /// left half made, is removed. `Damaged`, and nothing is removed, where two have not begun.
-fn last_volume(rt: &HostRuntime, folder: &str) -> Result<Option<LastVolume>, ShelfFault> {
+fn last_volume(rt: &HostRuntime, folder: &str) -> Result<Option<LastVolume<Disk>>, ShelfFault> {
     let heap = rt.alloc();
     let numbers = volume_numbers(rt, folder)?;
     let mut half_made_path = None;
@@ -110,13 +111,13 @@ fn last_volume(rt: &HostRuntime, folder: &str) -> Result<Option<LastVolume>, She
 }
 
 /// The volume over the tables of a store.
-fn volume_over(
+fn volume_over<S: Store + Drop>(
     heap: Global,
     path: &str,
-    store: Disk,
+    store: S,
     tables: Tables,
     first: u64,
-) -> Result<Volume<Disk>, ShelfFault> {
+) -> Result<Volume<S>, ShelfFault> {
     match Volume::new(store, heap, tables, first) {
         Ok(volume) => Ok(volume),
         Err((fault, _store)) => Err(of_volume(heap, path, fault)),
@@ -135,6 +136,29 @@ struct Opening<'a> {
     subjects: &'a str,
 }
 
+/// Begins the volume in these tables.
+fn begin_volume<S: Store + Drop>(
+    heap: Global,
+    path: &str,
+    store: S,
+    tables: Tables,
+    opening: Opening<'_>,
+) -> Result<Volume<S>, ShelfFault> {
+    let mut volume = volume_over(heap, path, store, tables, opening.first)?;
+    let begun = volume.begin(
+        heap,
+        opening.features,
+        opening.version,
+        opening.decider,
+        opening.life,
+        opening.subjects,
+    );
+    match begun {
+        Ok(()) => Ok(volume),
+        Err(fault) => Err(of_volume(heap, path, fault)),
+    }
+}
+
 /// Makes a volume, and puts what it begins with. What an earlier try left is removed before.
 fn new_volume(
     rt: &HostRuntime,
@@ -146,26 +170,14 @@ fn new_volume(
     remove_volume(rt, folder, path.as_str())?;
     make_files(rt, folder, path.as_str())?;
     let (store, tables) = make_tables(rt, path.as_str())?;
-    let mut volume = volume_over(heap, path.as_str(), store, tables, opening.first)?;
-    let begun = volume.begin(
-        heap,
-        opening.features,
-        opening.version,
-        opening.decider,
-        opening.life,
-        opening.subjects,
-    );
-    match begun {
-        Ok(()) => Ok(volume),
-        Err(fault) => Err(of_volume(heap, path.as_str(), fault)),
-    }
+    begin_volume(heap, path.as_str(), store, tables, opening)
 }
 
 /// The state that a volume keeps.
-fn state_in(
+fn state_in<S: Store>(
     heap: Global,
     path: &str,
-    volume: &mut Volume<Disk>,
+    volume: &mut Volume<S>,
 ) -> Result<State<Global>, ShelfFault>
     ensures sorted { IfOk result (λ state. IsSortedById state.features.items) }
 {
@@ -177,8 +189,8 @@ fn state_in(
 
 /// A volume that goes on, its number, what it has, and its first record.
 #[derive(Drop)]
-struct Resumed {
-    volume: Volume<Disk>,
+struct Resumed<S: Store + Drop> {
+    volume: Volume<S>,
     number: u32,
     first: u64,
     life: u64,
@@ -191,7 +203,7 @@ fn begin_first(
     folder: &str,
     decider: &Decider,
     subjects: &str,
-) -> Result<Resumed, ShelfFault>
+) -> Result<Resumed<Disk>, ShelfFault>
     ensures sorted { IfOk result (λ resumed. IsSortedById resumed.state.features.items) }
 {
     let opening = Opening {
@@ -215,7 +227,11 @@ fn begin_first(
 }
 
 /// Goes on with the last volume: reads all that it has, and notes a further life.
-fn resume(heap: Global, last: LastVolume, subjects: &str) -> Result<Resumed, ShelfFault>
+fn resume<S: Store + Drop>(
+    heap: Global,
+    last: LastVolume<S>,
+    subjects: &str,
+) -> Result<Resumed<S>, ShelfFault>
     ensures sorted { IfOk result (λ resumed. IsSortedById resumed.state.features.items) }
 {
     let LastVolume {

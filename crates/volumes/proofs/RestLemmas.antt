@@ -2,7 +2,7 @@
 use Rattle.std.proofs.Common.{◌≡◌, ◌≢◌, ℕ, ◌+◌, Bool, true, false, true≢false, IsTrue, List, [], ◌∷◌, ◌++◌, length, map, refl, sym, ap, subst, ◌∙◌, arith, length-append}
 use Rattle.audit_trail.specs.Records.{RecordData}
 use Rattle.audit_trail.specs.JsonLines.{lines_from}
-use Rattle.sqlite_trees.specs.Tree.{Trees}
+use Rattle.sqlite_trees.specs.Tree.{Trees, put_row}
 use Rattle.sqlite_value.specs.Order.{Row}
 use Rattle.sqlite_trees.specs.View.{View, IsClean, OnlyWrites, Commits, IsRolledBack}
 use Rattle.sqlite_trees.specs.declared.store.Shape.TheVariants as kind
@@ -90,6 +90,21 @@ held_committed old mid new t number next rs v rest clean more commits count held
     let here : Holds t new.committed (volume_after rs v) = subst (λ (db : Trees). Holds t db (volume_after rs v)) (sym (ap (λ (w : View). w.committed) commits.is)) there in
     let at = held.1 in
     (here, omega (arith, count, at, length-append v.lines (lines_from (v.first + length v.lines) rs), length-lines_from (v.first + length v.lines) rs))
+
+-- the lives on the disk after a commit that wrote none
+pub lives_kept : (old mid new : View) (t : Tables) → IsAtRest old t → IsClean old → OnlyWrites old mid → mid.trees t.lives ≡ old.trees t.lives
+    → Commits mid new → new.committed t.lives ≡ old.committed t.lives
+lives_kept old mid new t rest clean frame same commits =
+    let before : old.is_broken ≡ false = sym (ap (λ (w : View). w.is_broken) frame) ∙ commits.sound in
+    ap (λ (db : Trees). db t.lives) (ap (λ (w : View). w.committed) commits.is) ∙ same ∙ ap (λ (db : Trees). db t.lives) (rest.settled clean before)
+
+-- the lives on the disk after a commit that wrote one
+pub life_noted : (old mid new : View) (t : Tables) (row : Row) → IsAtRest old t → IsClean old → Writes old mid t.lives (put_row row (old.trees t.lives))
+    → Commits mid new → new.committed t.lives ≡ put_row row (old.committed t.lives)
+life_noted old mid new t row rest clean wrote commits =
+    let before : old.is_broken ≡ false = sym (ap (λ (w : View). w.is_broken) wrote.frame) ∙ commits.sound in
+    ap (λ (db : Trees). db t.lives) (ap (λ (w : View). w.committed) commits.is) ∙ wrote.here
+    ∙ ap (λ (db : Trees). put_row row (db t.lives)) (rest.settled clean before)
 
 -- what is on the disk after a commit that wrote lives alone
 pub held_beside : (old mid new : View) (t : Tables) (number : ℕ) (rows : List Row) (v : VolumeData) → IsAtRest old t → IsClean old → Writes old mid t.lives rows

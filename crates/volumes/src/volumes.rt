@@ -3,12 +3,13 @@
 ghost use Rattle.std.specs.Prelude.{◌≡◌, ℕ, List, ◌+◌, ◌<◌, ◌≤◌, ◌⊎◌, length, map, OnOk, OnErr, IfOk, IfSome, IfNone, IsTrue};
 ghost use Rattle.std.specs.Arc.{arc_value};
 ghost use Rattle.features.specs.Rows.{IsSortedById};
-ghost use Rattle.sqlite_trees.specs.Tree.{Trees};
+ghost use Rattle.sqlite_trees.specs.Tree.{Trees, put_row};
 ghost use Rattle.sqlite_trees.specs.View.{IsQuiet};
 ghost use Rattle.sqlite_trees.specs.declared.store.Shape.TheVariants as kind;
 ghost use Rattle.volumes.specs.States.{state_of};
 ghost use Rattle.volumes.specs.Volumes.{VolumeData, AreApart, HaveRows, HoldsState, Holds, volume_after};
-ghost use Rattle.volumes.specs.Promises.{IsHonest, IsOpen, told, MayBeLeft, Keeps};
+ghost use Rattle.volumes.specs.Promises.{IsHonest, IsOpen, told, told_lives, MayBeLeft, Keeps};
+ghost use Rattle.volumes.specs.Rows.{row_of_life};
 
 use crate::beginning::{put_life, put_state};
 use crate::changes::Buffers;
@@ -124,8 +125,8 @@ impl<S: Store> Volume<S> {
 
     /// Appends a group of records with what they changed, all of them or none, and returns when
     /// they last: from then on whatever a crash leaves has them. After an error the volume is as it
-    /// was, and while its store is open the group may be appended again. `NoNumber` exactly where
-    /// the numbers of these records would reach 2^63; then nothing was tried. `Misfit` where a
+    /// was, and while its store is open the group may be appended again. `NoNumber` where the
+    /// numbers of these records would reach 2^63; then nothing was tried. `Misfit` where a
     /// record adds a feature that is there, or changes one that is not.
     pub fn append<A: Allocator>(
         &mut self,
@@ -136,6 +137,8 @@ impl<S: Store> Volume<S> {
         ensures ok { OnOk result (IsHonest S.Store.view self.new → (v : VolumeData)
             → Keeps S.Store.view self.old v
             → Keeps S.Store.view self.new (volume_after (map arc_value records.now) v)) }
+        ensures lives { OnOk result (IsHonest S.Store.view self.new
+            → told_lives S.Store.view self.new ≡ told_lives S.Store.view self.old) }
         ensures lasts { OnOk result (IsHonest S.Store.view self.new → (db : Trees)
             → MayBeLeft S.Store.recovers self.new db → db ≡ told S.Store.view self.new) }
         ensures err { OnErr result (IsHonest S.Store.view self.new → IsOpen S.Store.view self.new
@@ -240,13 +243,17 @@ impl<S: Store> Volume<S> {
         Ok(self.store.commit()?)
     }
 
-    /// Notes a life, whose first record is the next one, and commits that. All else stays. `subjects`
-    /// is a text for readers. `NoNumber` where the next record has no number below 2^63.
+    /// Notes a life, whose first record is the next one, beside the lives before it, and commits that.
+    /// All else stays. `subjects` is a text for readers. `NoNumber` where the next record has no number below 2^63.
     pub fn note_life(&mut self, life: u64, subjects: &str) -> Result<(), VolumeFault>
         ensures tables { self.new.tables ≡ self.old.tables }
         ensures next { self.new.next ≡ self.old.next }
         ensures kept { OnOk result (IsHonest S.Store.view self.new → (v : VolumeData)
             → Keeps S.Store.view self.old v → Keeps S.Store.view self.new v) }
+        ensures noted { OnOk result (IsHonest S.Store.view self.new
+            → told_lives S.Store.view self.new
+            ≡ put_row (row_of_life life self.old.next subjects.now)
+            (told_lives S.Store.view self.old)) }
         ensures lasts { OnOk result (IsHonest S.Store.view self.new → (db : Trees)
             → MayBeLeft S.Store.recovers self.new db → db ≡ told S.Store.view self.new) }
         ensures err { OnErr result (IsHonest S.Store.view self.new → IsOpen S.Store.view self.new
