@@ -43,7 +43,7 @@ const GLANCE: u64 = 1;
 /// The same where another worker waits for a connection, and for a write.
 const LONG_LOOK: u64 = 1_000;
 
-/// After how many reads without an answer a client makes room for others that wait.
+/// After how many reads a client makes room for others that wait, however many requests it sends.
 const READS_AT_ONCE: u64 = 16;
 
 /// A connection of HTTP between two reads.
@@ -76,6 +76,19 @@ impl Visitor {
             begun: Instant::now(rt)?,
             answered: AtomicU64::new(0),
         })
+    }
+
+    /// For how many milliseconds its client has had no answer.
+    fn silence<R: Clock>(&self, rt: &R) -> u64 {
+        age_since(rt, self.begun).saturating_sub(self.answered.load(Ordering::SeqCst))
+    }
+}
+
+/// How many milliseconds ago it was `begun`; `u64::MAX` where the host has no time.
+fn age_since<R: Clock>(rt: &R, begun: Instant) -> u64 {
+    match begun.elapsed(rt) {
+        Ok(elapsed) => u64::try_from(elapsed.as_millis()).unwrap_or(u64::MAX),
+        Err(_) => u64::MAX,
     }
 }
 
@@ -132,10 +145,9 @@ pub struct Reception<'a> {
     pub workers: usize,
 }
 
-/// Whether other connections wait for a worker, and there is room for one more to wait.
+/// Whether other connections wait for a worker.
 fn is_crowded(lounge: &Lounge, arrivals: &Receiver<WebStream>) -> bool {
-    let waiting = !arrivals.is_empty() || !lounge.from.is_empty();
-    waiting && !lounge.from.is_full()
+    !arrivals.is_empty() || !lounge.from.is_empty()
 }
 
 /// For how many milliseconds a read waits. As long as another worker waits for a connection, nobody
@@ -169,8 +181,8 @@ fn next_arrival<R: Wait + Clock>(
 }
 
 /// Reads from a connection. A read is broken off, so that the connection can wait, where the turn is
-/// over, or where other connections wait, and the client is silent or sends its request in many
-/// pieces. A client that has had its time is given up, however few bytes it sends at a time.
+/// over, or where other connections wait, and the client is silent or has sent many pieces of
+/// requests. A client that has had its time is given up, however few bytes it sends at a time.
 #[derive(Drop)]
 struct VisitorReader<'a, 'x, R: Clock> {
     rt: &'x R,
@@ -185,7 +197,7 @@ struct VisitorReader<'a, 'x, R: Clock> {
     answered: &'a AtomicU64,
     /// Not 0 where bytes of an answer were written since the last read.
     written: &'a AtomicU64,
-    /// How many reads got bytes since the last answer, while this worker looked after it.
+    /// How many reads got bytes while this worker looked after it.
     reads: u64,
     /// For how many milliseconds the stream's reads wait; 0 where that is not set yet.
     set: u64,
@@ -206,10 +218,7 @@ impl<R: Clock> VisitorReader<'_, '_, R> {
 
     /// How many milliseconds ago the connection was accepted; `u64::MAX` where the host has no time.
     fn age(&self) -> u64 {
-        match self.begun.elapsed(self.rt) {
-            Ok(elapsed) => u64::try_from(elapsed.as_millis()).unwrap_or(u64::MAX),
-            Err(_) => u64::MAX,
-        }
+        age_since(self.rt, self.begun)
     }
 
     /// Whether the client has had its time.
@@ -222,11 +231,10 @@ impl<R: Clock> VisitorReader<'_, '_, R> {
     fn note_answer(&mut self) {
         if self.written.swap(0, Ordering::SeqCst) != 0 {
             self.answered.store(self.age(), Ordering::SeqCst);
-            self.reads = 0;
         }
     }
 
-    /// Whether the client has sent so many pieces of a request that others come first.
+    /// Whether the client has sent so many pieces of requests that others come first.
     fn makes_room(&self) -> bool {
         self.reads >= READS_AT_ONCE && is_crowded(self.lounge, self.arrivals)
     }
@@ -433,6 +441,24 @@ fn next_visitor<R: Wait + Clock + Log>(
     unreachable!()
 }
 
+/// Has a connection wait. Where as many wait as may, one is closed, with a warning: of this one and
+/// the one that would be looked after next, that whose client has had no answer for longer.
+fn set_aside<R: Wait + Clock + Log>(rt: &R, lounge: &Lounge, visitor: Visitor) {
+    let Err(refused) = lounge.to.try_send(rt, visitor) else {
+        return;
+    };
+    warn!(rt; target: "landmap", "a connection of HTTP was closed: too many wait");
+    let visitor = refused.into_inner();
+    if let Ok(next) = lounge.from.try_recv(rt) {
+        let kept = if next.silence(rt) > visitor.silence(rt) {
+            visitor
+        } else {
+            next
+        };
+        let _ = lounge.to.try_send(rt, kept);
+    }
+}
+
 /// Answers connections of HTTP, one after another, until the turn is over or no more come, and hands
 /// in the seats of their subjects. Those that have not ended by then wait for the next hall.
 pub fn receive<'x, 'h, L: HallName, H: Wait + Drop, R: Wait + Clock + Log>(
@@ -457,8 +483,8 @@ pub fn receive<'x, 'h, L: HallName, H: Wait + Drop, R: Wait + Clock + Log>(
             rt, heap, hall, &mut seats, &mut view, lasting, reception, turn,
         );
         turn.leave();
-        if waits && reception.lounge.to.try_send(rt, visitor).is_err() {
-            warn!(rt; target: "landmap", "a connection of HTTP was closed: too many wait");
+        if waits {
+            set_aside(rt, reception.lounge, visitor);
         }
     }
     if gathered.lock(rt).append(&mut seats).is_err() {

@@ -29,6 +29,8 @@ pub(crate) enum WebFault {
     NoPublic,
     /// A proxy is to say who asks, and there is none before an address.
     NoProxy,
+    /// No port is named, so nobody knows where HTTP would be answered.
+    NoPort,
     /// There are more workers, of lines and of HTTP together, than a server can have.
     Workers,
     /// The host gives no random numbers.
@@ -46,6 +48,7 @@ impl WebFault {
                 "HTTP on a Unix socket needs \"public\" in the configuration: what links begin with",
             WebFault::NoProxy =>
                 "\"trusted-field\" is for a proxy before a Unix socket: --http-socket, not --http",
+            WebFault::NoPort => "--http needs a port that is not 0",
             WebFault::Workers => "--workers and --http-workers are at most 1024 together",
             WebFault::NoRandom => "HTTP needs random numbers, and the host gives none",
             WebFault::Memory(_) => "out of memory",
@@ -126,7 +129,10 @@ impl WebPlan {
         let Some(grid) = grid else {
             return Err(WebFault::NoGrid);
         };
-        if let HttpWord::Address(_) = word {
+        if let HttpWord::Address(address) = word {
+            if address.port() == 0 {
+                return Err(WebFault::NoPort);
+            }
             if said.trusted_field {
                 return Err(WebFault::NoProxy);
             }
