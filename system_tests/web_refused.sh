@@ -1,5 +1,5 @@
 # What a server with HTTP refuses at its start: a configuration without a grid, a socket without an address for links, an address that is
-# not of this machine, one that another server has, a server that ends after some connections, more workers than there may be.
+# not of this machine, one without a port, one that another server has, a server that ends after some connections, more workers than there may be.
 source "$(dirname "$0")/parts.bash"
 web_configuration
 grep -v '"grid"' map.json > flat.json
@@ -16,6 +16,7 @@ refused() {
 refused 1 "HTTP needs a grid" --config flat.json --http 127.0.0.1:8080
 refused 1 '"public"' --config map.json --http-socket web.sock
 refused 2 "on this machine alone" --config map.json --http 0.0.0.0:8080
+refused 1 "a port that is not 0" --config map.json --http 127.0.0.1:0
 refused 2 "4000001 is not in 1..=4000000" --features 4000001
 refused 1 "at most 1024 together" --config map.json --http 127.0.0.1:8080 --workers 1017
 refused 1 "at most 1024 together" --config map.json --http 127.0.0.1:8080 --workers 2 --http-workers 1023
