@@ -62,7 +62,7 @@ returns-in-Ok-Import g c =
     let words : List (List ℕ) = map (λ word. string_bytes word) c.args.words.now in
     let asked = subst (λ r. IfOk r (IsAsked words)) c.in-Ok-Import.is c.read_words.ensures in
     let given = subst (IsAsked words) c.in-Ok-Import.field-0-is asked in
-    transfer_answers words _ _ g.O.Write.contents c.args.output.now (transfers.Import c.in-Ok-Import.given) _ c.answer_transfer-in-Ok-Import.result given given.1.0.config c.answer_transfer-in-Ok-Import.ensures
+    transfer_answers words _ _ g.O.Write.contents c.args.output.now (transfers.Import c.in-Ok-Import.given) _ c.answer_transfer-in-Ok-Import.result given given.1.config c.answer_transfer-in-Ok-Import.ensures
 
 pub returns-in-Ok-Man : goal.returns-in-Ok-Man
 returns-in-Ok-Man g c =
