@@ -56,7 +56,7 @@ go-placed : (z o n : ℤ) (inside : Bool) → (if inside then Ok (z -ℤ o) else
 go-placed z o n true h = let e : z -ℤ o ≡ n = cc in placed z o n e
 go-placed z o n false h = absurd cc
 
-on_grid_placed : (z o n : ℤ) → on_grid o (Ok z) ≡ Ok n → o +ℤ n ≡ z
+pub on_grid_placed : (z o n : ℤ) → on_grid o (Ok z) ≡ Ok n → o +ℤ n ≡ z
 on_grid_placed z o n h = go-placed z o n (is_coordinate (z -ℤ o)) h
 
 go-steps : (grid : Grid) (axis : Axis) (text : List ℕ) (n : ℤ) (x : Number) (s : Option ℕ) → number_of text ≡ Some x → steps_of Refuse grid.decimals x ≡ s

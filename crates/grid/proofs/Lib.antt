@@ -1,6 +1,8 @@
 pub mod DigitsLemmas
 pub mod StepsLemmas
 pub mod CappedLemmas
+pub mod ClosestLemmas
+pub mod NearestLemmas
 pub mod PrintingLemmas
 pub mod RoundTrip
 pub mod ExactLemmas

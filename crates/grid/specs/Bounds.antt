@@ -1,5 +1,5 @@
 -- The bounds of a box on a grid: the last step at or below a number, the first at or above it.
-use Rattle.std.specs.Prelude.{ℕ, ◌+◌, ◌/◌, ◌%◌, ◌==◌, min, Bool, true, false, not, ℤ, pos, neg_ℤ, ◌-ℤ◌, ◌+ℤ◌, int_le, List, Option, Some, None, Result, Ok, Err, if◌then◌else◌}
+use Rattle.std.specs.Prelude.{ℕ, ◌+◌, ◌/◌, ◌%◌, ◌==◌, min, Bool, not, ℤ, pos, ◌-ℤ◌, ◌+ℤ◌, int_le, List, Option, Some, None, Result, Ok, Err, if◌then◌else◌}
 use Rattle.plane.specs.declared.point.TheConstants.{LIMIT}
 use Rattle.grid.specs.declared.bounds.Side.{Side}
 use Rattle.grid.specs.declared.bounds.Side.TheVariants.{Low, High}

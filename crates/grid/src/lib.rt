@@ -16,6 +16,6 @@ pub use bounds::{Side, bound_of};
 pub use coordinates::coordinate_of;
 pub use faults::{GridFault, NumberFault};
 pub use grids::{Axis, Between, Grid, MOST_DECIMALS, ORIGIN_LIMIT};
-pub use laws::{number_is_exact, text_is_read};
+pub use laws::{bound_is_closest, number_is_exact, number_is_nearest, text_is_read};
 pub use parts::{EXPONENT_LIMIT, NUMBER_LIMIT};
 pub use printing::{NumberText, coordinate_text, reach, step_text};
