@@ -1,16 +1,18 @@
 #!/usr/bin/env python3
-"""Clients over HTTP and over session lines at once: mixed.py BASE SOCKET WRITER READER [SECONDS]
+"""Clients over HTTP and over session lines at once: mixed.py BASE SOCKET WRITER READER [SECONDS [STEWARD CONFIG]]
 
 BASE is the address of a server by HTTP, SOCKET its socket of session lines, WRITER a subject that may add, reshape, delete and read
 features of the classes `mast` and `parcel` in its own office, READER the one that the configuration names as `anonymous`. Eight clients
 change features of their own by session lines, eight read by HTTP: boxes, pages of kept answers, single features. Each answer is looked
 at by itself: it may not be older than what anybody had been answered before it was asked for. At the end the rows by HTTP have to be
-those of a SEARCH by READER.
+those of a SEARCH by READER. With a steward's name and the server's configuration, the steward puts its policies in force meanwhile, in
+turn with the same ones behind a set that closes the class `survey`, asks EXPLAIN after each, and rolls the trail.
 Prints what was done, and `N passed, M failed` as the last line.
 """
 import json
 import os
 import random
+import re
 import sys
 import threading
 import time
@@ -27,9 +29,10 @@ WHOLE = 'POLYGON ((-10000000 -10000000, 10000000 -10000000, 10000000 10000000, -
 
 
 class Run:
-    def __init__(self, base, path, writer, reader, seconds):
+    def __init__(self, base, path, writer, reader, seconds=20, steward=None, config=None):
         self.base, self.path, self.writer, self.reader = base, path, writer, reader
-        self.end = time.time() + seconds
+        self.steward, self.config = steward, config
+        self.end = time.time() + float(seconds)
         self.wrong, self.counts, self.lock = [], {}, threading.Lock()
         self.newest = {}  # id: the least version that may be shown from now on, by all answers so far; GONE where it was deleted
         west, south, east, north = (Decimal(number) for number in self.extent())
@@ -93,6 +96,40 @@ class Run:
                 session.ask('ABORT')
             else:
                 return self.fail(f'COMMIT: {got}')
+        session.ask('BYE')
+
+    # ---- the steward
+
+    def govern(self):
+        with open(self.config, encoding='utf-8') as file:
+            usual = json.load(file)['policies']
+        closing = {'policy': 'surveys', 'combine': 'first-applicable', 'rules': [
+            {'rule': 'no-surveys', 'effect': 'deny', 'target': [[[{'class': 'survey'}]]]}]}
+        closed = {**usual, 'root': {'set': 'closed', 'combine': 'first-applicable', 'of': [closing, usual['root']]}}
+        session, given, rolled, last = Session(self.path), [], [], 0
+        session.ask(f'HELLO {self.steward}')
+        while time.time() < self.end:
+            for document in (closed, usual):
+                told = session.ask('POLICY ' + json.dumps(document))[0]
+                if not re.fullmatch(r'edition \d+', told) or given and told != f'edition {given[-1] + 1}':
+                    return self.fail(f'POLICY behind edition {given[-1:]}: {told}')
+                given.append(int(told.split()[1]))
+                ruling = session.ask('EXPLAIN read roads survey POINT (0 0)')[0]
+                if (ruling.startswith('denied rule no-surveys ') is not (document is closed)) or not ruling.endswith(' ' + told):
+                    return self.fail(f'EXPLAIN by {told}: {ruling}')
+                self.count('POLICY and EXPLAIN')
+            records = [json.loads(line) for line in session.ask('ROLL')[1:]]
+            numbers = [record['number'] for record in records]
+            # Where the hall changed meanwhile, what nobody had rolled out is gone.
+            if numbers and (numbers[0] <= last or numbers != list(range(numbers[0], numbers[-1] + 1))):
+                return self.fail(f'ROLL behind record {last}: {numbers[:1]} to {numbers[-1:]}, {len(numbers)} records')
+            last = numbers[-1] if numbers else last
+            rolled += [record['edition'] for record in records if record['kind'] == 'governed']
+            self.count('record rolled', len(records))
+            time.sleep(0.2)
+        ours = [edition for edition in rolled if edition >= given[0]]
+        if ours != sorted(set(ours)) or not set(ours) <= set(given):
+            self.fail(f'the trail has the editions {ours[:3]} to {ours[-3:]}, put in force were {given[:3]} to {given[-3:]}')
         session.ask('BYE')
 
     # ---- HTTP
@@ -198,6 +235,7 @@ class Run:
 
     def run(self):
         threads = [threading.Thread(target=work, args=(number,)) for number in range(8) for work in (self.write, self.read)]
+        threads += [threading.Thread(target=self.govern)] if self.steward else []
         for thread in threads:
             thread.start()
         for thread in threads:
@@ -211,6 +249,6 @@ class Run:
 
 
 if __name__ == '__main__':
-    if len(sys.argv) not in (5, 6):
+    if len(sys.argv) not in (5, 6, 8):
         sys.exit(__doc__)
-    sys.exit(Run(*sys.argv[1:5], float(sys.argv[5]) if len(sys.argv) > 5 else 20).run())
+    sys.exit(Run(*sys.argv[1:]).run())
