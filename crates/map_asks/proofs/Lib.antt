@@ -1,2 +1,3 @@
+pub mod BoxLemmas
 pub mod CutLemmas
 pub mod FormLemmas

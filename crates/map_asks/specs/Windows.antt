@@ -59,3 +59,18 @@ window_in b = if is_crossed b then Some Nothing else shape_window (box_shape b)
 -- the window of a box, where its bounds are in order
 abbrev pub window_of : Bounds → Option Window
 window_of b = if is_crossed b then None else window_in (clipped b)
+
+-- the corners of a box, each once: from the south west on, counter-clockwise
+abbrev pub thin_corners : Bounds → List Point
+thin_corners b =
+    if int_eq b.south b.north then corner b.west b.south ∷ []
+    else corner b.west b.south ∷ corner b.east b.north ∷ []
+
+abbrev pub wide_corners : Bounds → List Point
+wide_corners b =
+    if int_eq b.south b.north then corner b.west b.south ∷ corner b.east b.north ∷ []
+    else corner b.west b.south ∷ corner b.east b.south ∷ corner b.east b.north
+    ∷ corner b.west b.north ∷ []
+
+abbrev pub box_corners : Bounds → List Point
+box_corners b = if int_eq b.west b.east then thin_corners b else wide_corners b
