@@ -312,9 +312,10 @@ class Tests:
     def fc_time_response(self):
         """a moment, an interval, open ones: features without a time pass; another form: 400"""
         for time in ('2026-11-28', '2026-11-28T05:00:00Z', '2026-11-28T05:00:00.5%2B01:00', '2026-01-01/2026-12-31', '../2026-12-31',
-                     '2026-01-01/..', '2026-01-01/', '/2026-12-31T00:00:00Z'):
+                     '2026-01-01/..', '2024-02-29', '2026-01-01/', '/2026-12-31T00:00:00Z'):
             want(len(self.ids(f'datetime={time}')) == len(self.all), time)
-        for time in ('yesterday', '2026', '2026-11-28T05:00', '../..', '/', '2026-01-01/2026-02-01/2026-03-01'):
+        for time in ('yesterday', '2026', '2026-11-28T05:00', '../..', '/', '2026-01-01/2026-02-01/2026-03-01', '2026-02-29',
+                     '2026-11-28T24:00:00Z'):
             want_status(self.ask(f'/collections/features/items?datetime={time}'), 400, time)
 
     def fc_links(self):

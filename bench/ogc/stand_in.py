@@ -8,6 +8,7 @@ changes. Its rule `zones-stay` denies each change of a zone, and no rule permits
 answers is what its crates say. A path /slow before any other waits a second; /fail/N answers with status N.
 """
 import collections
+import datetime
 import http.server
 import json
 import math
@@ -90,6 +91,24 @@ class Fault(Exception):
 NUMBER = re.compile(r'[+-]?(\d+\.?\d*|\.\d+)([eE][+-]?\d{1,4})?$')
 MOMENT = r'\d{4}-\d\d-\d\d(T\d\d:\d\d:\d\d(\.\d+)?(Z|[+-]\d\d:\d\d))?'
 DATETIME = re.compile(rf'{MOMENT}$|({MOMENT}/(\.\.|{MOMENT})?|(\.\.)?/{MOMENT})$')
+
+
+def is_moment(text):
+    """whether there is the day, and the time of day, of what has the form of a moment, or is open"""
+    if text in ('', '..'):
+        return True
+    try:
+        datetime.date(int(text[:4]) or 400, int(text[5:7]), int(text[8:10]))
+    except ValueError:
+        return False
+    clock, zone = text[11:19], text[-6:]
+    if clock and (int(clock[:2]) > 23 or int(clock[3:5]) > 59 or int(clock[6:]) > 60):
+        return False
+    return not clock or text[-1] in 'Zz' or int(zone[1:3]) < 24 and int(zone[4:]) < 60
+
+
+def is_datetime(text):
+    return bool(DATETIME.match(text)) and all(is_moment(end) for end in text.split('/'))
 
 
 def box_of(text):
@@ -401,7 +420,7 @@ class StandIn(http.server.BaseHTTPRequestHandler):
             if key in asked:
                 raise Fault(400, 'U3')
             asked[key] = box_of(value) if key == 'bbox' else natural(value) if key != 'datetime' else value
-            if key == 'limit' and asked[key] == 0 or key == 'datetime' and not DATETIME.match(value):
+            if key == 'limit' and asked[key] == 0 or key == 'datetime' and not is_datetime(value):
                 raise Fault(400, 'U4')
         limit = min(asked.get('limit', 1000), 10_000)
         if 'kept' in asked and ('bbox' in asked or 'datetime' in asked) or 'after' in asked and 'kept' not in asked:

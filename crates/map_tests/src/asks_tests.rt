@@ -6,7 +6,7 @@ use plane::{Point, Shape, corners};
 use std::process::Abort;
 
 /// Paths, queries, and the code of their fault, or `ok`.
-const ASKED: [(&str, &str, &str); 63] = [
+const ASKED: [(&str, &str, &str); 83] = [
     ("/", "", "ok"),
     ("/", "&&", "ok"),
     ("/", "f=json", "U2"),
@@ -83,6 +83,62 @@ const ASKED: [(&str, &str, &str); 63] = [
     ),
     ("/collections/mast/items", "datetime=2026-11-28", "ok"),
     ("/collections/mast/items", "datetime=2026-11-28/..", "ok"),
+    ("/collections/mast/items", "datetime=2024-02-29", "ok"),
+    ("/collections/mast/items", "datetime=2026-02-29", "U4"),
+    ("/collections/mast/items", "datetime=2000-02-29", "ok"),
+    ("/collections/mast/items", "datetime=1900-02-29", "U4"),
+    ("/collections/mast/items", "datetime=2026-04-30", "ok"),
+    ("/collections/mast/items", "datetime=2026-04-31", "U4"),
+    ("/collections/mast/items", "datetime=2026-12-31", "ok"),
+    ("/collections/mast/items", "datetime=2026-12-32", "U4"),
+    ("/collections/mast/items", "datetime=2026-11-00", "U4"),
+    ("/collections/mast/items", "datetime=2026-00-01", "U4"),
+    ("/collections/mast/items", "datetime=2026-13-01", "U4"),
+    (
+        "/collections/mast/items",
+        "datetime=2026-11-28T23:59:60Z",
+        "ok",
+    ),
+    (
+        "/collections/mast/items",
+        "datetime=2026-11-28T24:00:00Z",
+        "U4",
+    ),
+    (
+        "/collections/mast/items",
+        "datetime=2026-11-28T00:60:00Z",
+        "U4",
+    ),
+    (
+        "/collections/mast/items",
+        "datetime=2026-11-28T00:00:61Z",
+        "U4",
+    ),
+    (
+        "/collections/mast/items",
+        "datetime=2026-11-28T00:00:00-23:59",
+        "ok",
+    ),
+    (
+        "/collections/mast/items",
+        "datetime=2026-11-28T00:00:00-24:00",
+        "U4",
+    ),
+    (
+        "/collections/mast/items",
+        "datetime=2026-11-28T00:00:00-23:60",
+        "U4",
+    ),
+    (
+        "/collections/mast/items",
+        "datetime=2026-02-30T00:00:00Z",
+        "U4",
+    ),
+    (
+        "/collections/mast/items",
+        "datetime=2026-11-28/2026-11-31",
+        "U4",
+    ),
     ("/collections/mast/items", "datetime=../..", "U4"),
     ("/collections/mast/items", "datetime=/2026-11-28", "ok"),
     ("/collections/mast/items", "datetime=yesterday", "U4"),
